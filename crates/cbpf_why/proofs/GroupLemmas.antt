@@ -11,7 +11,7 @@ use Rattle.cbpf_why.specs.declared.ended.Verdict.{Verdict}
 use Rattle.cbpf_why.specs.declared.ended.Verdict.TheVariants.{Pass, Fail, Unknown}
 use Rattle.cbpf_why.specs.declared.groups.Group.{Group}
 use Rattle.cbpf_why.specs.Ends.{is_verdict, verdict_of}
-use Rattle.cbpf_why.specs.Groups.{AreGroups, Keeps, Kept, by_verdict, count_of, is_in_group, group, kept, with_one}
+use Rattle.cbpf_why.specs.Groups.{AllKept, AreGroups, Keeps, by_verdict, count_of, is_in_group, group, group_kept, with_one}
 
 first_holds : (p : Ended → Bool) (b : Bool) (x : Ended) (ys : List Ended) → p x ≡ b
     → IfSome (slice_get ys 0) (λ e. p e ≡ true) → IfSome (slice_get (if b then x ∷ ys else ys) 0) (λ e. p e ≡ true)
@@ -35,7 +35,7 @@ filter-yes p xs e h = filter-append p xs (e ∷ []) ∙ ap (λ b. filter p xs ++
 filter-no : (p : Ended → Bool) (xs : List Ended) (e : Ended) → p e ≡ false → filter p (xs ++ e ∷ []) ≡ filter p xs
 filter-no p xs e h = filter-append p xs (e ∷ []) ∙ ap (λ b. filter p xs ++ (if b then e ∷ [] else [])) h ∙ append-nil (filter p xs)
 
-kept-more : (xs : List Ended) (e : Ended) → kept (xs ++ e ∷ []) ≡ with_one (kept xs) e
+kept-more : (xs : List Ended) (e : Ended) → group_kept (xs ++ e ∷ []) ≡ with_one (group_kept xs) e
 kept-more [] e = refl
 kept-more (x ∷ xs) e =
     let long : length (x ∷ (xs ++ e ∷ [])) ≡ length (x ∷ xs) + 1 = omega (arith, length-append xs (e ∷ [])) in
@@ -44,16 +44,16 @@ kept-more (x ∷ xs) e =
 module _ (ends : List Ended) (e : Ended) (v : Verdict) (gs : List Group) (d : Group) (same : v ≡ verdict_of e.reason)
     (are : AreGroups ends v gs) (within : e.pc < length gs) where
   more_at : (i : ℕ) (b : Bool) → (e.pc == i) ≡ b → i < length gs
-      → slice_get (slice_set gs e.pc (with_one (get_or gs e.pc d) e)) i ≡ Some (kept (group (ends ++ e ∷ []) i v))
+      → slice_get (slice_set gs e.pc (with_one (get_or gs e.pc d) e)) i ≡ Some (group_kept (group (ends ++ e ∷ []) i v))
   more_at i true h inside =
       let is : i ≡ e.pc = grind arith in
       let holds : is_in_group i v e ≡ true = rw (h, ← same, same_verdict v) refl in
-      let had : get_or gs e.pc d ≡ kept (group ends i v) = rw (is) (get_or_from_slice_get gs e.pc _ d (are e.pc within)) in
+      let had : get_or gs e.pc d ≡ group_kept (group ends i v) = rw (is) (get_or_from_slice_get gs e.pc _ d (are e.pc within)) in
       slice_get-get_or _ i d (rw (length-set gs e.pc (with_one (get_or gs e.pc d) e)) inside)
       ∙ ap Some (get_or-set_at gs e.pc i _ d is within)
       ∙ ap (λ g. Some (with_one g e)) had
       ∙ ap Some (sym (kept-more (group ends i v) e))
-      ∙ ap (λ l. Some (kept l)) (sym (filter-yes (is_in_group i v) ends e holds))
+      ∙ ap (λ l. Some (group_kept l)) (sym (filter-yes (is_in_group i v) ends e holds))
   more_at i false h inside =
       let other : i ≢ e.pc = λ is. absurd (grind arith) in
       let fails : is_in_group i v e ≡ false = rw h refl in
@@ -61,7 +61,7 @@ module _ (ends : List Ended) (e : Ended) (v : Verdict) (gs : List Group) (d : Gr
       ∙ ap Some (get_or-set_other gs e.pc i _ d other)
       ∙ sym (slice_get-get_or gs i d inside)
       ∙ are i inside
-      ∙ ap (λ l. Some (kept l)) (sym (filter-no (is_in_group i v) ends e fails))
+      ∙ ap (λ l. Some (group_kept l)) (sym (filter-no (is_in_group i v) ends e fails))
 
   pub groups-more : AreGroups (ends ++ e ∷ []) v (slice_set gs e.pc (with_one (get_or gs e.pc d) e))
   groups-more i inside = more_at i (e.pc == i) refl (rw (length-set gs e.pc (with_one (get_or gs e.pc d) e)) at inside)
@@ -71,7 +71,7 @@ pub groups-others : (ends : List Ended) (e : Ended) (v : Verdict) (gs : List Gro
     → AreGroups ends v gs → AreGroups (ends ++ e ∷ []) v gs
 groups-others ends e v gs other are i inside =
     let fails : is_in_group i v e ≡ false = and_no (e.pc == i) other in
-    are i inside ∙ ap (λ l. Some (kept l)) (sym (filter-no (is_in_group i v) ends e fails))
+    are i inside ∙ ap (λ l. Some (group_kept l)) (sym (filter-no (is_in_group i v) ends e fails))
   where
     and_no : (b : Bool) {c : Bool} → c ≡ false → (b && c) ≡ false
     and_no true h = h
@@ -81,7 +81,7 @@ groups-others ends e v gs other are i inside =
 pub group_count : (ends : List Ended) (v : Verdict) (gs : List Group) (d : Group) (i : ℕ) → AreGroups ends v gs → i < length gs
     → (get_or gs i d).count < length ends + 1
 group_count ends v gs d i are inside =
-    let is : get_or gs i d ≡ kept (group ends i v) = get_or_from_slice_get gs i _ d (are i inside) in
+    let is : get_or gs i d ≡ group_kept (group ends i v) = get_or_from_slice_get gs i _ d (are i inside) in
     rw is (omega (arith, length-filter (is_in_group i v) ends, count_by-le-length (is_in_group i v) ends))
 
 -- ---- all groups
@@ -103,7 +103,7 @@ count-no v ends e h =
 pub total_count : (ends : List Ended) (v : Verdict) → count_of ends v ≤ length ends
 total_count ends v = count_by-le-length (λ x. is_verdict v (verdict_of x.reason)) ends
 
-module _ (k : Kept) (added : List Group) (n : ℕ) (ends : List Ended) (e : Ended) (keeps : Keeps k n ends) where
+module _ (k : AllKept) (added : List Group) (n : ℕ) (ends : List Ended) (e : Ended) (keeps : Keeps k n ends) where
   pub keeps_pass : verdict_of e.reason ≡ Pass → AreGroups (ends ++ e ∷ []) (verdict_of e.reason) added
       → length added ≡ length k.passed
       → Keeps (record k { passed = added; totals = record k.totals { passes = k.totals.passes + 1 } }) n (ends ++ e ∷ [])
@@ -184,12 +184,12 @@ first_inside ends i n v inside = inside_of (slice_get (group ends i v) 0) (first
     inside_of (Some e) h = at e (e.pc == i) refl h
 
 -- what is kept at an instruction
-pub group_is : (k : Kept) (n : ℕ) (ends : List Ended) (v : Verdict) (i : ℕ) (g : Group) → Keeps k n ends → i < n
-    → slice_get (by_verdict k v) i ≡ Some g → g ≡ kept (group ends i v)
+pub group_is : (k : AllKept) (n : ℕ) (ends : List Ended) (v : Verdict) (i : ℕ) (g : Group) → Keeps k n ends → i < n
+    → slice_get (by_verdict k v) i ≡ Some g → g ≡ group_kept (group ends i v)
 group_is k n ends v i g keeps inside at =
     let there = keeps.groups v i (rw (keeps.long v) inside) in cc
 
-pub group_inside : (k : Kept) (n : ℕ) (ends : List Ended) (v : Verdict) (i : ℕ) (g : Group) → Keeps k n ends → i < n
+pub group_inside : (k : AllKept) (n : ℕ) (ends : List Ended) (v : Verdict) (i : ℕ) (g : Group) → Keeps k n ends → i < n
     → slice_get (by_verdict k v) i ≡ Some g → IfSome g.first (λ e. e.pc < n)
 group_inside k n ends v i g keeps inside at =
     rw (group_is k n ends v i g keeps inside at) (first_inside ends i n v inside)

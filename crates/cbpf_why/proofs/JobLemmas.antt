@@ -19,8 +19,8 @@ use Rattle.cbpf_machine.specs.Ways.{Counted as CountedRuns, executed_in, taken_i
 use Rattle.cbpf_machine.specs.declared.outcome.End.{End}
 use Rattle.cbpf_machine.specs.declared.outcome.End.TheVariants.{Returned, Outside, ZeroDivisor, Unknown}
 use Rattle.pcap_classic.specs.Records.{Record}
-use Rattle.cbpf_why.specs.Ends.{end_of, ended, ended_at, ends_of}
-use Rattle.cbpf_why.specs.Job.{Tallies, Took, Reads, ReadsKnown, Going, Faulted, Ranged, Closed, Stopped, Stepped, StepFault, LeavesKnown, from_first, machine_in, shows_groups, shows_runs, where_shown}
+use Rattle.cbpf_why.specs.Ends.{end_by, ended, ended_at, ends_of}
+use Rattle.cbpf_why.specs.Job.{Tallies, Took, TookFrom, TookFromKnown, Going, Faulted, Ranged, Closed, Stopped, Stepped, StepFault, LeavesKnown, from_first, machine_in, shows_groups, shows_runs, where_shown}
 use Rattle.cbpf_why.specs.Reports.{packet_text, packets_text}
 use Rattle.cbpf_why.specs.declared.chosen.PacketRange.{PacketRange}
 use Rattle.cbpf_why.specs.declared.job.WhyFault.{WhyFault}
@@ -35,7 +35,7 @@ use Rattle.pcap_classic.specs.Reading.{Reading, Gives, Proceeds}
 use Rattle.pcap_classic.specs.declared.captured.Captured.{Captured}
 use Rattle.cbpf_why.specs.Runs.{executed, taken}
 
-end_is : (e : End) → end_of (turn_of e) ≡ e
+end_is : (e : End) → end_by (turn_of e) ≡ e
 end_is (Returned v) = refl
 end_is Outside = refl
 end_is ZeroDivisor = refl
@@ -46,7 +46,7 @@ pub ended-is : (m : Machine) (r : Record) (last : Registers) (reason : End)
     → last ≡ last_or zero_state (trace m r.bytes r.wire) → turn m r.bytes r.wire last ≡ turn_of reason
     → record { packet = r.number; pc = last.pc; reason = reason } ≡ ended m r
 ended-is m r last reason is made =
-    ap (λ e. record { packet = r.number; pc = last.pc; reason = e }) (sym (ap end_of made ∙ end_is reason))
+    ap (λ e. record { packet = r.number; pc = last.pc; reason = e }) (sym (ap end_by made ∙ end_is reason))
     ∙ ap (ended_at m r) is
 
 -- one packet more
@@ -120,8 +120,8 @@ with_records s l = record s { records = l }
 
 -- one more record was read, of which it is known what was left
 pub reads-more : (first : ℕ) (s rest next : Savefile) (before after : ℕ) (more : List Record) (r : Record)
-    → Reads first s rest before after more → rest ≡ record next { records = r ∷ next.records } → r.number ≡ after + 1
-    → Reads first s next before (after + 1) (more ++ filter (λ x. nat_le first x.number) (r ∷ []))
+    → TookFrom first s rest before after more → rest ≡ record next { records = r ∷ next.records } → r.number ≡ after + 1
+    → TookFrom first s next before (after + 1) (more ++ filter (λ x. nat_le first x.number) (r ∷ []))
 reads-more first s rest next before after more r read left number = record {
   front = read.front ++ r ∷ [];
   split = read.split
@@ -284,8 +284,8 @@ stepped_unflushed q first old u v part = record {
 -- ---- calls that read, one after another
 
 known_more : (first : ℕ) (old : Option Savefile) (mid new : Option Savefile) (before after : ℕ) (more one : List Record)
-    → ReadsKnown first old mid before after more → LeavesKnown after mid new one → length one ≡ 1
-    → ReadsKnown first old new before (after + 1) (more ++ from_first first one)
+    → TookFromKnown first old mid before after more → LeavesKnown after mid new one → length one ≡ 1
+    → TookFromKnown first old new before (after + 1) (more ++ from_first first one)
 known_more first None mid new before after more one reads leaves e = tt
 known_more first (Some s) mid new before after more [] reads leaves e = absurd (omega (arith, e))
 known_more first (Some s) mid new before after more (r ∷ x ∷ xs) reads leaves e = absurd (omega (arith, e))
@@ -295,8 +295,8 @@ known_more first (Some s) mid new before after more (r ∷ []) reads leaves e =
 
 -- the same of no record or one
 known_any : (first : ℕ) (old : Option Savefile) (mid new : Option Savefile) (before after : ℕ) (more one : List Record)
-    → ReadsKnown first old mid before after more → LeavesKnown after mid new one → length one ≤ 1
-    → ReadsKnown first old new before (after + length one) (more ++ from_first first one)
+    → TookFromKnown first old mid before after more → LeavesKnown after mid new one → length one ≤ 1
+    → TookFromKnown first old new before (after + length one) (more ++ from_first first one)
 known_any first None mid new before after more one reads leaves e = tt
 known_any first (Some s) mid new before after more [] reads leaves e =
     let left = rw reads.1 at leaves in
@@ -318,7 +318,7 @@ range-starts q first records before old c w took few nothing = record {
   wrote = nothing;
 }
   where
-    starts : (o : Option Savefile) → ReadsKnown first o o before before []
+    starts : (o : Option Savefile) → TookFromKnown first o o before before []
     starts None = tt
     starts (Some s) = (
       s,
@@ -373,7 +373,7 @@ range-fails q range records before old mid new c u v w after fault going count b
     stopped_more why.Memory u v w a b x y = appended-then u v w a b x y
 
 ends_known : (first : ℕ) (old mid : Option Savefile) (new : Reading) (before after : ℕ) (more : List Record)
-    → ReadsKnown first old mid before after more → LeavesKnown after mid new.left []
+    → TookFromKnown first old mid before after more → LeavesKnown after mid new.left []
     → IfSome mid (λ s. (s.records ≡ []) × (new.ended ≡ Some s.ending))
     → IfSome old (λ _. IfSome new.left (λ s. (s.records ≡ []) × (new.ended ≡ Some s.ending)))
 ends_known first None mid new before after more reads leaves ends = tt

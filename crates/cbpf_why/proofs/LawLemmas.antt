@@ -10,13 +10,13 @@ use Rattle.cbpf_machine.specs.Turn.{turn}
 use Rattle.cbpf_machine.specs.declared.outcome.Turn.{Turn}
 use Rattle.cbpf_machine.specs.declared.outcome.Turn.TheVariants as turn_is
 use Rattle.pcap_classic.specs.Records.{Record}
-use Rattle.cbpf_why.specs.Ends.{end_of, ended, ends_of, is_verdict, kind_of, verdict_of}
+use Rattle.cbpf_why.specs.Ends.{end_by, ended, ends_of, is_verdict, kind_of, verdict_of}
 use Rattle.cbpf_why.specs.Groups.{count_of, totals}
 use Rattle.cbpf_why.specs.Laws.{TotalsCountOutcomes, VerdictIsOutcome, counts_of, is_kind, outcomes_of}
 use Rattle.cbpf_why.specs.declared.ended.Verdict.{Verdict}
 use Rattle.cbpf_why.specs.declared.ended.Verdict.TheVariants.{Pass, Fail, Unknown}
 
-outcome_is : (t : Turn) → outcome_of (turn_of (end_of t)) ≡ outcome_of t
+outcome_is : (t : Turn) → outcome_of (turn_of (end_by t)) ≡ outcome_of t
 outcome_is (turn_is.Next s) = refl
 outcome_is (turn_is.Returned v) = refl
 outcome_is turn_is.Outside = refl

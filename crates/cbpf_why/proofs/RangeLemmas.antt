@@ -15,7 +15,7 @@ use Rattle.pcap_classic.specs.Reading.{Reading}
 use Rattle.pcap_classic.specs.Records.{Record}
 use Rattle.pcap_classic.specs.Savefile.{Savefile}
 use Rattle.cbpf_why.specs.Chosen.{AreSorted, chosen, is_chosen, is_within}
-use Rattle.cbpf_why.specs.Job.{Broke, EndsBy, Faulted, IsOver, Looked, LookedKnown, Ranged, Reads, ReadsKnown, Stopped, Took, Went, machine_in}
+use Rattle.cbpf_why.specs.Job.{Broke, EndsBy, Faulted, IsOver, Looked, LookedKnown, Ranged, TookFrom, TookFromKnown, Stopped, Took, Went, machine_in}
 use Rattle.cbpf_why.specs.Reports.{ends_beyond, goes_to_end, packet_text, packets_text}
 use Rattle.cbpf_why.specs.declared.chosen.PacketRange.{PacketRange}
 use Rattle.cbpf_why.specs.declared.counted.Counted.{Counted}
@@ -138,7 +138,7 @@ with_records s l = record s { records = l }
 looked_more : (ranges : List PacketRange) (i : ℕ) (range : PacketRange) (s mid rest : Savefile) (before after : ℕ)
     (records more : List Record) → AreSorted ranges → slice_get ranges i ≡ Some range
     → All (EndsBy before) (take i ranges) → (before < after → after ≤ range.last)
-    → Looked ranges s mid before records → Reads range.first mid rest before after more
+    → Looked ranges s mid before records → TookFrom range.first mid rest before after more
     → Looked ranges s rest after (records ++ more)
 looked_more ranges i range s mid rest before after records more sorted at ended up_to looked reads = record {
   front = looked.front ++ reads.front;
@@ -162,7 +162,7 @@ looked_more ranges i range s mid rest before after records more sorted at ended 
 known_more : (ranges : List PacketRange) (i : ℕ) (range : PacketRange) (old mid new : Option Savefile) (before after : ℕ)
     (records more : List Record) → AreSorted ranges → slice_get ranges i ≡ Some range
     → All (EndsBy before) (take i ranges) → (before < after → after ≤ range.last)
-    → LookedKnown ranges old mid before records → ReadsKnown range.first mid new before after more
+    → LookedKnown ranges old mid before records → TookFromKnown range.first mid new before after more
     → LookedKnown ranges old new after (records ++ more)
 known_more ranges i range None mid new before after records more sorted at ended up_to looked reads = tt
 known_more ranges i range (Some s) mid new before after records more sorted at ended up_to looked reads =
@@ -234,7 +234,7 @@ is-over q old mid new c u v went over = by q.packets.now old.left mid.left new m
 
 -- ---- all packets
 
-looked_all : (s rest : Savefile) (after : ℕ) (more : List Record) → Reads 1 s rest 0 after more
+looked_all : (s rest : Savefile) (after : ℕ) (more : List Record) → TookFrom 1 s rest 0 after more
     → Looked [] s rest after more
 looked_all s rest after more reads = record {
   front = reads.front;
@@ -245,7 +245,7 @@ looked_all s rest after more reads = record {
       let number = reads.numbered i r there in grind (arith, nat_tests));
 }
 
-known_all : (old new : Option Savefile) (after : ℕ) (more : List Record) → ReadsKnown 1 old new 0 after more
+known_all : (old new : Option Savefile) (after : ℕ) (more : List Record) → TookFromKnown 1 old new 0 after more
     → LookedKnown [] old new after more
 known_all None new after more reads = tt
 known_all (Some s) new after more reads = (reads.0, reads.1, looked_all s reads.0 after more reads.2)

@@ -15,7 +15,7 @@ use Rattle.pcap_classic.specs.Records.{AreNumbered, Record}
 use Rattle.pcap_classic.specs.Savefile.{Savefile}
 use Rattle.cbpf_why.specs.Chosen.{chosen, is_chosen}
 use Rattle.cbpf_why.specs.Job.{Broke, Closed, Ends, EndsBy, Looked, LookedKnown, Stopped, Went, machine_in}
-use Rattle.cbpf_why.specs.Reports.{Reported, WroteFront, closing_text, end_after, end_of, end_read, goes_to_end, packet_text, packets_text, report_text, shown_end}
+use Rattle.cbpf_why.specs.Reports.{Reported, WroteFront, capture_end, closing_text, end_after, end_read, goes_to_end, packet_text, packets_text, report_text, shown_end}
 use Rattle.cbpf_why.specs.declared.chosen.PacketRange.{PacketRange}
 use Rattle.cbpf_why.specs.declared.counted.Counted.{Counted}
 use Rattle.cbpf_why.specs.declared.job.Question.{Question}
@@ -79,12 +79,12 @@ module _ (ranges : List PacketRange) (c rest : Savefile) (count : ℕ) (records 
 
 whole_text : (report : Report) (ranges : List PacketRange) (m : Machine) (c : Savefile) (records : List Record)
     (text : List ℕ) → records ≡ chosen ranges c.records
-    → text ≡ closing_text report m records (shown_end ranges (Some (end_of c)))
+    → text ≡ closing_text report m records (shown_end ranges (Some (capture_end c)))
     → packets_text report m records ++ text ≡ report_text report ranges m c
 unfolding report_text
 whole_text report ranges m c records text are is =
     ap (λ l. packets_text report m records ++ l) is
-    ∙ ap (λ l. packets_text report m l ++ closing_text report m l (shown_end ranges (Some (end_of c)))) are
+    ∙ ap (λ l. packets_text report m l ++ closing_text report m l (shown_end ranges (Some (capture_end c)))) are
 
 -- what is known of the capture's end
 abbrev end_at : Reading → Bool → Option CaptureEnd
@@ -105,14 +105,14 @@ finished_over : (report : Report) (m : Machine) (ranges : List PacketRange) (c r
 finished_over report m ranges c rest new records looked none ended goes =
     let many = as_many ranges c rest new.count records looked none in
     let nothing : chosen ranges rest.records ≡ [] = ap (chosen ranges) none in
-    let is : end_at new true ≡ Some (end_of c) =
+    let is : end_at new true ≡ Some (capture_end c) =
     ap (option_map (end_after new.count)) (ended ∙ ap Some (sym (same_ending ranges c rest new.count records looked)))
     ∙ ap (λ (n : ℕ). Some (end_after n c.ending)) (sym many) in
     record {
       text = whole_text report ranges m c records (closing_text report m records (shown_end ranges (end_at new true)))
           (all_are ranges c rest new.count records looked nothing)
           (ap (λ e. closing_text report m records (shown_end ranges e)) is);
-      is_end = is ∙ ap (λ b. if b then Some (end_of c) else None) (goes ∙ ap (goes_to_end ranges) (sym many));
+      is_end = is ∙ ap (λ b. if b then Some (capture_end c) else None) (goes ∙ ap (goes_to_end ranges) (sym many));
     }
 
 finished_before : (report : Report) (m : Machine) (x : PacketRange) (xs : List PacketRange) (c rest : Savefile)
@@ -126,7 +126,7 @@ finished_before report m x xs c rest new records looked numbered goes =
     record {
       text = whole_text report (x ∷ xs) m c records (closing_text report m records None)
           (all_are (x ∷ xs) c rest new.count records looked nothing) refl;
-      is_end = ap (λ b. if b then Some (end_of c) else None) (asks-no-end (x ∷ xs) (length c.records) (omega arith) later);
+      is_end = ap (λ b. if b then Some (capture_end c) else None) (asks-no-end (x ∷ xs) (length c.records) (omega arith) later);
     }
 
 finished_by : (report : Report) (m : Machine) (ranges : List PacketRange) (o : Option Savefile) (new : Reading)
@@ -148,7 +148,7 @@ front_part : (report : Report) (ranges : List PacketRange) (m : Machine) (c rest
     (records : List Record) (u w : Option (List ℕ)) → Looked ranges c rest count records
     → AppendedPart u w (packets_text report m records) → AppendedPart u w (report_text report ranges m c)
 front_part report ranges m c rest count records u w looked part =
-    let closing = closing_text report m (chosen ranges c.records) (shown_end ranges (Some (end_of c))) in
+    let closing = closing_text report m (chosen ranges c.records) (shown_end ranges (Some (capture_end c))) in
     let all : packets_text report m (chosen ranges c.records)
     ≡ packets_text report m records ++ packets_text report m (chosen ranges rest.records) =
     ap (packets_text report m) (all_chosen ranges c rest count records looked)

@@ -35,12 +35,12 @@ is_verdict verdict_is.Unknown verdict_is.Unknown = true
 is_verdict _ _ = false
 
 -- how a turn ends a packet; `Next` is no last turn
-abbrev pub end_of : Turn → End
-end_of (turn_is.Next s) = Outside
-end_of (turn_is.Returned v) = Returned v
-end_of turn_is.Outside = Outside
-end_of turn_is.ZeroDivisor = ZeroDivisor
-end_of (turn_is.Unknown e) = Unknown e
+abbrev pub end_by : Turn → End
+end_by (turn_is.Next s) = Outside
+end_by (turn_is.Returned v) = Returned v
+end_by turn_is.Outside = Outside
+end_by turn_is.ZeroDivisor = ZeroDivisor
+end_by (turn_is.Unknown e) = Unknown e
 
 -- the state before the last instruction that a packet executes
 abbrev pub last_state : Machine → Record → Registers
@@ -48,7 +48,7 @@ last_state m r = last_or zero_state (trace m r.bytes r.wire)
 
 -- how a packet ends, by its last state
 abbrev pub ended_at : Machine → Record → Registers → Ended
-ended_at m r s = record { packet = r.number; pc = s.pc; reason = end_of (turn m r.bytes r.wire s) }
+ended_at m r s = record { packet = r.number; pc = s.pc; reason = end_by (turn m r.bytes r.wire s) }
 
 -- how a packet ends: its number, its last instruction, and what the turn there gave
 abbrev pub ended : Machine → Record → Ended

@@ -19,7 +19,7 @@ use Rattle.cbpf_why.specs.declared.ended.Ended.{Ended}
 use Rattle.cbpf_why.specs.declared.ended.Verdict.{Verdict}
 use Rattle.cbpf_why.specs.declared.ended.Verdict.TheVariants.{Pass, Fail, Unknown}
 use Rattle.cbpf_why.specs.Ends.{verdict_in, reason_after, verdict_of}
-use Rattle.cbpf_why.specs.Groups.{group, kept, Keeps, by_verdict}
+use Rattle.cbpf_why.specs.Groups.{group, group_kept, Keeps, by_verdict}
 use Rattle.cbpf_machine.specs.Ways.{runs_at}
 use Rattle.cbpf_why.specs.declared.graph.Counted.{Counted}
 use Rattle.cbpf_why.specs.Ends.{ends_of}
@@ -155,9 +155,9 @@ facts_at m records ends i =
     record {
       runs = record { executed = executed m records i; taken = taken m records i };
       block_runs = executed m records (block_of m.list i);
-      passed = kept (group ends i Pass);
-      failed = kept (group ends i Fail);
-      unknown = kept (group ends i Unknown);
+      passed = group_kept (group ends i Pass);
+      failed = group_kept (group ends i Fail);
+      unknown = group_kept (group ends i Unknown);
     }
 
 abbrev pub block_part : List Insn → ℕ → Facts → List ℕ

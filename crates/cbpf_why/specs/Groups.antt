@@ -26,8 +26,8 @@ group_line list count first =
     ∷ reason_after first.reason ∷ codes ", first packet " ∷ decimal first.packet ∷ codes "\n" ∷ [])
 
 -- what is kept of a group: how many there are, and the first one
-abbrev pub kept : List Ended → Group
-kept es = record { count = length es; first = slice_get es 0 }
+abbrev pub group_kept : List Ended → Group
+group_kept es = record { count = length es; first = slice_get es 0 }
 
 -- with a packet more
 abbrev pub with_one : Group → Ended → Group
@@ -43,8 +43,8 @@ group_text list g = first_text list g.count g.first
 
 -- at an instruction, those that passed before those that failed, and these before the others
 abbrev pub groups_at : List Insn → List Ended → ℕ → List ℕ
-groups_at list ends i = group_text list (kept (group ends i Pass))
-    ++ (group_text list (kept (group ends i Fail)) ++ group_text list (kept (group ends i Unknown)))
+groups_at list ends i = group_text list (group_kept (group ends i Pass))
+    ++ (group_text list (group_kept (group ends i Fail)) ++ group_text list (group_kept (group ends i Unknown)))
 
 -- a line for each group that has packets, in the order of the instructions
 unfoldable pub groups_text : List Insn → List Ended → List ℕ
@@ -61,23 +61,23 @@ totals ends = record { passes = count_of ends Pass; fails = count_of ends Fail; 
 -- ---- what is kept of all groups
 
 -- by instruction: those that passed, failed, and asked for an extension without a value; and how many there are
-pub record Kept : Type 0 where
+pub record AllKept : Type 0 where
   pub passed : List Group
   pub failed : List Group
   pub unknown : List Group
   pub totals : Counts
 
-abbrev pub by_verdict : Kept → Verdict → List Group
+abbrev pub by_verdict : AllKept → Verdict → List Group
 by_verdict k Pass = k.passed
 by_verdict k Fail = k.failed
 by_verdict k Unknown = k.unknown
 
 -- the groups of a verdict, by instruction
 abbrev pub AreGroups : List Ended → Verdict → List Group → Type 0
-AreGroups ends v groups = (i : ℕ) → i < length groups → slice_get groups i ≡ Some (kept (group ends i v))
+AreGroups ends v groups = (i : ℕ) → i < length groups → slice_get groups i ≡ Some (group_kept (group ends i v))
 
 -- what is kept of packets that ended in a program of so many instructions
-pub record Keeps (k : Kept) (count : ℕ) (ends : List Ended) : Type 0 where
+pub record Keeps (k : AllKept) (count : ℕ) (ends : List Ended) : Type 0 where
   pub groups : (v : Verdict) → AreGroups ends v (by_verdict k v)
   pub long : (v : Verdict) → length (by_verdict k v) ≡ count
   pub totals : k.totals ≡ totals ends

@@ -56,7 +56,7 @@ pub record Took {A P : Type 0} (q : Question P) (c : Counted A) (records : List 
 
 -- of what was left of a capture the first records were read, and those were taken whose number is not below a range's
 -- first one
-pub record Reads (first : ℕ) (s rest : Savefile) (before after : ℕ) (more : List Record) : Type 0 where
+pub record TookFrom (first : ℕ) (s rest : Savefile) (before after : ℕ) (more : List Record) : Type 0 where
   pub front : List Record
   pub split : s ≡ record rest { records = front ++ rest.records }
   pub counted : after ≡ before + length front
@@ -64,9 +64,9 @@ pub record Reads (first : ℕ) (s rest : Savefile) (before after : ℕ) (more : 
   pub taken : more ≡ filter (λ r. nat_le first r.number) front
 
 -- what is known of the capture before and after, where anything is
-abbrev pub ReadsKnown : ℕ → Option Savefile → Option Savefile → ℕ → ℕ → List Record → Type 0
-ReadsKnown first None new before after more = Unit {0}
-ReadsKnown first (Some s) new before after more = (rest : Savefile) × (new ≡ Some rest) × Reads first s rest before after more
+abbrev pub TookFromKnown : ℕ → Option Savefile → Option Savefile → ℕ → ℕ → List Record → Type 0
+TookFromKnown first None new before after more = Unit {0}
+TookFromKnown first (Some s) new before after more = (rest : Savefile) × (new ≡ Some rest) × TookFrom first s rest before after more
 
 -- a fault of a write, or of a read, after some text
 abbrev pub Stopped : WhyFault → Option (List ℕ) → Option (List ℕ) → List ℕ → Type 0
@@ -96,7 +96,7 @@ pub record Going {A P : Type 0} (q : Question P) (first : ℕ) (records : List R
   pub more : List Record
   pub took : Took q c (records ++ more)
   pub few : length (records ++ more) ≤ after
-  pub reads : ReadsKnown first old new before after more
+  pub reads : TookFromKnown first old new before after more
   pub wrote : Appended w v (packets_text q.report (machine_in q) more)
 
 -- likewise all packets of a range
@@ -116,7 +116,7 @@ pub record Faulted {P : Type 0} (q : Question P) (range : PacketRange) (before :
   pub after : ℕ
   pub up_to : before < after → after ≤ range.last
   pub count : new.count ≡ after
-  pub reads : ReadsKnown range.first old.left new.left before after more
+  pub reads : TookFromKnown range.first old.left new.left before after more
   pub stopped : Stopped fault w v (packets_text q.report (machine_in q) more)
 
 -- what is known of the capture before and after a call that reads a record, if there is one

@@ -54,8 +54,8 @@ packets_text report m records = flat_map (packet_text report m) records
 abbrev pub end_after : ℕ → Ending → CaptureEnd
 end_after count ending = record { count = count; ending = ending }
 
-abbrev pub end_of : Savefile → CaptureEnd
-end_of c = end_after (length c.records) c.ending
+abbrev pub capture_end : Savefile → CaptureEnd
+capture_end c = end_after (length c.records) c.ending
 
 -- how the capture ends is shown where all packets are looked at
 abbrev pub shown_end : List PacketRange → Option CaptureEnd → Option CaptureEnd
@@ -66,7 +66,7 @@ shown_end (range ∷ ranges) end = None
 unfoldable pub report_text : Report → List PacketRange → Machine → Savefile → List ℕ
 report_text report ranges m c =
     let records = chosen ranges c.records in
-    packets_text report m records ++ closing_text report m records (shown_end ranges (Some (end_of c)))
+    packets_text report m records ++ closing_text report m records (shown_end ranges (Some (capture_end c)))
 
 -- a range ends beyond so many packets
 abbrev pub ends_beyond : ℕ → PacketRange → Bool
@@ -78,7 +78,7 @@ goes_to_end ranges count = (length ranges == 0) || list_any (ends_beyond count) 
 
 -- how the capture ends, where it is read to its end
 abbrev pub end_read : List PacketRange → Savefile → Option CaptureEnd
-end_read ranges c = if goes_to_end ranges (length c.records) then Some (end_of c) else None
+end_read ranges c = if goes_to_end ranges (length c.records) then Some (capture_end c) else None
 
 -- a fault of reading after so many packets: what was to be written of them one by one was written, and nothing of all
 -- packets together

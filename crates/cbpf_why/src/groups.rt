@@ -73,9 +73,9 @@ fn empty_groups<A: Allocator>(alloc: A, length: u32) -> Result<Vec<Group, A>, Al
 }
 
 impl<A: Allocator> Model for Groups<A> {
-    ghost use Rattle.cbpf_why.specs.Groups.{Kept};
+    ghost use Rattle.cbpf_why.specs.Groups.{AllKept};
 
-    ghost Value = { Kept };
+    ghost Value = { AllKept };
 
     ghost view = { λ g. record {
       passed = g.passed.items;
