@@ -20,7 +20,8 @@ use Rattle.cbpf_machine.specs.declared.outcome.End.{End}
 use Rattle.cbpf_machine.specs.declared.outcome.End.TheVariants.{Returned, Outside, ZeroDivisor, Unknown}
 use Rattle.pcap_classic.specs.Records.{Record}
 use Rattle.cbpf_why.specs.Ends.{end_by, ended, ended_at, ends_of}
-use Rattle.cbpf_why.specs.Job.{Tallies, Took, TookFrom, TookFromKnown, Going, Faulted, Ranged, Closed, Stopped, Stepped, StepFault, LeavesKnown, from_first, machine_in, shows_groups, shows_runs, where_shown}
+use Rattle.cbpf_why.specs.Job.{Tallies, Took, TookFrom, TookFromKnown, Going, Faulted, Ranged, Closed, Stopped, Stepped, StepFault, LeavesKnown, from_first, shows_groups, shows_runs, where_shown}
+use Rattle.cbpf_why.specs.Question.{machine_in}
 use Rattle.cbpf_why.specs.Reports.{packet_text, packets_text}
 use Rattle.cbpf_why.specs.declared.chosen.PacketRange.{PacketRange}
 use Rattle.cbpf_why.specs.declared.job.WhyFault.{WhyFault}

@@ -15,7 +15,8 @@ use Rattle.pcap_classic.specs.Reading.{Reading}
 use Rattle.pcap_classic.specs.Records.{Record}
 use Rattle.pcap_classic.specs.Savefile.{Savefile}
 use Rattle.cbpf_why.specs.Chosen.{AreSorted, chosen, is_chosen, is_within}
-use Rattle.cbpf_why.specs.Job.{Broke, EndsBy, Faulted, IsOver, Looked, LookedKnown, Ranged, TookFrom, TookFromKnown, Stopped, Took, Went, machine_in}
+use Rattle.cbpf_why.specs.Job.{Broke, EndsBy, Faulted, IsOver, Looked, LookedKnown, Ranged, TookFrom, TookFromKnown, Stopped, Took, Went}
+use Rattle.cbpf_why.specs.Question.{machine_in}
 use Rattle.cbpf_why.specs.Reports.{ends_beyond, goes_to_end, packet_text, packets_text}
 use Rattle.cbpf_why.specs.declared.chosen.PacketRange.{PacketRange}
 use Rattle.cbpf_why.specs.declared.counted.Counted.{Counted}

@@ -14,7 +14,8 @@ use Rattle.pcap_classic.specs.Reading.{Reading}
 use Rattle.pcap_classic.specs.Records.{AreNumbered, Record}
 use Rattle.pcap_classic.specs.Savefile.{Savefile}
 use Rattle.cbpf_why.specs.Chosen.{chosen, is_chosen}
-use Rattle.cbpf_why.specs.Job.{Broke, Closed, Ends, EndsBy, Looked, LookedKnown, Stopped, Went, machine_in}
+use Rattle.cbpf_why.specs.Job.{Broke, Closed, Ends, EndsBy, Looked, LookedKnown, Stopped, Went}
+use Rattle.cbpf_why.specs.Question.{machine_in}
 use Rattle.cbpf_why.specs.Reports.{Reported, WroteFront, capture_end, closing_text, end_after, end_read, goes_to_end, packet_text, packets_text, report_text, shown_end}
 use Rattle.cbpf_why.specs.declared.chosen.PacketRange.{PacketRange}
 use Rattle.cbpf_why.specs.declared.counted.Counted.{Counted}

@@ -3,8 +3,8 @@
 -- instruction with the same verdict a node in the colour of the verdict. A block, an instruction or a way that never
 -- ran is grey (this project's own; labels and their tags are those of Graphviz's "The DOT Language" and "HTML-Like
 -- Labels").
-use Rattle.std.specs.Prelude.{◌≡◌, ◌<◌, ℕ, zero, suc, ◌+◌, ◌-◌, Bool, ◌==◌, ◌||◌, false, List, [], ◌∷◌, ◌++◌, length}
-use Rattle.std.specs.Prelude.{codes, decimal, Option, Some, None, if◌then◌else◌, slice_get, slice_index_or}
+use Rattle.std.specs.Prelude.{ℕ, zero, suc, ◌+◌, ◌-◌, Bool, ◌==◌, ◌||◌, false, List, [], ◌∷◌, ◌++◌, length}
+use Rattle.std.specs.Prelude.{codes, decimal, Option, Some, None, if◌then◌else◌, slice_get}
 use Rattle.std.specs.List.{flat_map, list_any, enumerate_from}
 use Rattle.cbpf_code.specs.Listing.{line_text}
 use Rattle.cbpf_code.specs.Opcode.{op_of}
@@ -19,10 +19,7 @@ use Rattle.cbpf_why.specs.declared.ended.Ended.{Ended}
 use Rattle.cbpf_why.specs.declared.ended.Verdict.{Verdict}
 use Rattle.cbpf_why.specs.declared.ended.Verdict.TheVariants.{Pass, Fail, Unknown}
 use Rattle.cbpf_why.specs.Ends.{verdict_in, reason_after, verdict_of}
-use Rattle.cbpf_why.specs.Groups.{group, group_kept, Keeps, by_verdict}
-use Rattle.cbpf_machine.specs.Ways.{runs_at}
-use Rattle.cbpf_why.specs.declared.graph.Counted.{Counted}
-use Rattle.cbpf_why.specs.Ends.{ends_of}
+use Rattle.cbpf_why.specs.Groups.{group, group_kept}
 use Rattle.cbpf_why.specs.declared.groups.Group.{Group}
 use Rattle.cbpf_why.specs.declared.graph.Facts.{Facts}
 use Rattle.cbpf_why.specs.Runs.{executed, taken}
@@ -174,19 +171,3 @@ unfoldable pub graph_text : Machine → List Record → List Ended → List ℕ
 graph_text m records ends =
     graph_head ++ (texts_from (λ i. block_part m.list i (facts_at m records ends i)) 0 (length m.list)
     ++ (texts_from (λ i. end_part (block_of m.list i) (facts_at m records ends i)) 0 (length m.list) ++ codes "}\n"))
-
--- ---- a matter of this crate alone
-
--- each instruction has its counts, its groups, and says whether it begins a block
-pub record Fits {A P : Type 0} (c : Counted A P) : Type 0 where
-  pub runs : length c.runs.now ≡ length c.program.now
-  pub begins : length c.begins.now ≡ length c.program.now
-  pub groups : (v : Verdict) → length (by_verdict c.groups.now v) ≡ length c.program.now
-
--- what is counted of a program over some records: the blocks are those of its list, each instruction ran so often, and
--- the groups are those of the records
-pub record Counts {A P : Type 0} (c : Counted A P) (m : Machine) (records : List Record) : Type 0 where
-  pub list : m.list ≡ c.program.now
-  pub begins : (i : ℕ) → i < length m.list → slice_index_or c.begins.now i false ≡ begins_block m.list i
-  pub runs : (i : ℕ) → runs_at c.runs.now i ≡ record { executed = executed m records i; taken = taken m records i }
-  pub groups : Keeps c.groups.now (length m.list) (ends_of m records)

@@ -1,7 +1,7 @@
--- What was taken of a capture, packet by packet (this project's own). Public clauses name only `machine_in` of it.
+-- What was taken of a capture, packet by packet (this project's own). No public clause names it.
 use Rattle.std.specs.Prelude.{◌≡◌, ℕ, ◌+◌, ◌<◌, ◌≤◌, nat_le, Bool, true, false, List, [], ◌∷◌, ◌++◌, length, filter, slice_get, if◌then◌else◌}
 use Rattle.std.specs.Prelude.{Option, Some, None, IfSome, ◌^◌, Result, Ok, Err}
-use Rattle.cbpf_machine.specs.Machine.{Machine, machine_of}
+use Rattle.cbpf_machine.specs.Machine.{Machine}
 use Rattle.cbpf_machine.specs.Ways.{Counted as CountedRuns, runs_at}
 use Rattle.pcap_classic.specs.Reading.{Reading}
 use Rattle.pcap_classic.specs.Records.{Record}
@@ -14,15 +14,12 @@ use Rattle.cbpf_why.specs.declared.report.Report.TheVariants.{Summary, Ways, Pac
 use Rattle.cbpf_why.specs.Chosen.{chosen}
 use Rattle.cbpf_why.specs.Ends.{ends_of}
 use Rattle.cbpf_why.specs.Groups.{Keeps}
+use Rattle.cbpf_why.specs.Question.{machine_in}
 use Rattle.cbpf_why.specs.Reports.{goes_to_end, packets_text}
 use Rattle.cbpf_why.specs.Runs.{executed, taken}
 use Rattle.cbpf_code.specs.Writing.{Appended, AppendedPart}
 use Rattle.cbpf_why.specs.declared.job.WhyFault.{WhyFault}
 use Rattle.cbpf_why.specs.declared.job.WhyFault.TheVariants.{Read, Write, Memory}
-
--- the program of a question, with its values for extensions
-abbrev pub machine_in : {P : Type 0} → Question P → Machine
-machine_in q = machine_of q.program.now q.values.now
 
 -- the reports that show groups, and those that show how often instructions ran
 abbrev pub shows_groups : Report → Bool

@@ -8,6 +8,8 @@ pub mod Groups
 pub mod Runs
 pub mod Coverage
 pub mod Graph
+pub mod CountedProgram
 pub mod Reports
+pub mod Question
 pub mod Job
 pub mod Laws

@@ -7,6 +7,7 @@ ghost use Rattle.pcap_classic.specs.Records.{Record};
 ghost use Rattle.cbpf_why.specs.Ends.{ended};
 ghost use Rattle.cbpf_why.specs.Groups.{Keeps};
 ghost use Rattle.cbpf_why.specs.Job as spec;
+ghost use Rattle.cbpf_why.specs.Question.{machine_in};
 
 use crate::ended::Ended;
 use crate::groups::Groups;
@@ -40,7 +41,7 @@ impl<A: Allocator + Copy> Counted<A> {
 // It alone calls `end_of_packet`, and the summary alone calls it: so the loop over a packet is inlined there.
 #[inline(always)]
 fn end_of<P: Allocator>(question: &Question<'_, P>, record: &Captured<'_>) -> Ended
-    ensures ended { result ≡ ended (spec.machine_in question.now) (record_of record.now) }
+    ensures ended { result ≡ ended (machine_in question.now) (record_of record.now) }
     ensures inside { result.pc < length question.now.program.now }
 {
     let _sound = question.program.len();
@@ -61,10 +62,10 @@ fn count_packet<P: Allocator, A: Allocator>(
 ) -> Ended
     requires long { length tally.old.runs ≡ length question.now.program.now }
     requires few { tally.old.packets + 1 < 2 ^ 64 }
-    ensures ended { result ≡ ended (spec.machine_in question.now) (record_of record.now) }
+    ensures ended { result ≡ ended (machine_in question.now) (record_of record.now) }
     ensures inside { result.pc < length question.now.program.now }
-    ensures tallies { (records : List Record) → spec.Tallies tally.old (spec.machine_in question.now) records
-        → spec.Tallies tally.new (spec.machine_in question.now) (records ++ record_of record.now ∷ []) }
+    ensures tallies { (records : List Record) → spec.Tallies tally.old (machine_in question.now) records
+        → spec.Tallies tally.new (machine_in question.now) (records ++ record_of record.now ∷ []) }
 {
     let _sound = question.program.len();
     let task = Task {

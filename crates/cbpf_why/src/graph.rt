@@ -5,6 +5,7 @@ ghost use Rattle.cbpf_code.specs.Writing.{Wrote};
 ghost use Rattle.cbpf_machine.specs.Machine.{Machine};
 ghost use Rattle.cbpf_reply.specs.Packet.{texts_from};
 ghost use Rattle.pcap_classic.specs.Records.{Record};
+ghost use Rattle.cbpf_why.specs.CountedProgram.{Fits, IsCounted};
 ghost use Rattle.cbpf_why.specs.Ends.{ends_of};
 ghost use Rattle.cbpf_why.specs.Graph as spec;
 
@@ -42,10 +43,10 @@ pub(crate) struct Facts {
 impl<A: Allocator + Copy, P: Allocator> Counted<'_, A, P> {
     /// The block of an instruction, where that of the one before is known.
     fn block_at(&self, i: u32, before: u32) -> u32
-        requires fits { spec.Fits self.now }
+        requires fits { Fits self.now }
         requires inside { i < length self.now.program.now }
         ensures within { before ≤ i → result ≤ i }
-        ensures block { (m : Machine) (records : List Record) → spec.Counts self.now m records
+        ensures block { (m : Machine) (records : List Record) → IsCounted self.now m records
             → ((j : ℕ) → i ≡ j + 1 → before ≡ spec.block_of m.list j) → result ≡ spec.block_of m.list i }
     {
         if self.begins[i as usize] { i } else { before }
@@ -53,10 +54,10 @@ impl<A: Allocator + Copy, P: Allocator> Counted<'_, A, P> {
 
     /// What is known of an instruction of this block.
     fn facts_at(&self, i: u32, block: u32) -> Facts
-        requires fits { spec.Fits self.now }
+        requires fits { Fits self.now }
         requires inside { i < length self.now.program.now }
         requires block { block < length self.now.program.now }
-        ensures { (m : Machine) (records : List Record) → spec.Counts self.now m records
+        ensures { (m : Machine) (records : List Record) → IsCounted self.now m records
             → block ≡ spec.block_of m.list i → result ≡ spec.facts_at m records (ends_of m records) i }
     {
         Facts {
@@ -70,9 +71,9 @@ impl<A: Allocator + Copy, P: Allocator> Counted<'_, A, P> {
 
     /// Whether an instruction is the last of its block.
     fn is_last(&self, i: u32) -> bool
-        requires fits { spec.Fits self.now }
+        requires fits { Fits self.now }
         requires inside { i < length self.now.program.now }
-        ensures { (m : Machine) (records : List Record) → spec.Counts self.now m records → result ≡ spec.is_last m.list i }
+        ensures { (m : Machine) (records : List Record) → IsCounted self.now m records → result ≡ spec.is_last m.list i }
     {
         let next = i as usize + 1;
         next == self.begins.len() || self.begins[next]
@@ -84,8 +85,8 @@ fn write_blocks<W: Write, A: Allocator + Copy, P: Allocator>(
     w: &mut W,
     counted: &Counted<'_, A, P>,
 ) -> Result<(), WriteFault>
-    requires { spec.Fits counted.now }
-    ensures { (m : Machine) (records : List Record) → spec.Counts counted.now m records
+    requires { Fits counted.now }
+    ensures { (m : Machine) (records : List Record) → IsCounted counted.now m records
         → Wrote (W.contents w.old) (W.contents w.new) result
         (texts_from (λ i. spec.block_part m.list i (spec.facts_at m records (ends_of m records) i))
         0 (length m.list)) }
@@ -104,8 +105,8 @@ fn write_ends<W: Write, A: Allocator + Copy, P: Allocator>(
     w: &mut W,
     counted: &Counted<'_, A, P>,
 ) -> Result<(), WriteFault>
-    requires { spec.Fits counted.now }
-    ensures { (m : Machine) (records : List Record) → spec.Counts counted.now m records
+    requires { Fits counted.now }
+    ensures { (m : Machine) (records : List Record) → IsCounted counted.now m records
         → Wrote (W.contents w.old) (W.contents w.new) result
         (texts_from (λ i. spec.end_part (spec.block_of m.list i) (spec.facts_at m records (ends_of m records) i))
         0 (length m.list)) }
@@ -123,8 +124,8 @@ pub(crate) fn write_graph<W: Write, A: Allocator + Copy, P: Allocator>(
     w: &mut W,
     counted: &Counted<'_, A, P>,
 ) -> Result<(), WriteFault>
-    requires { spec.Fits counted.now }
-    ensures { (m : Machine) (records : List Record) → spec.Counts counted.now m records
+    requires { Fits counted.now }
+    ensures { (m : Machine) (records : List Record) → IsCounted counted.now m records
         → Wrote (W.contents w.old) (W.contents w.new) result (spec.graph_text m records (ends_of m records)) }
 {
     write_bytes(

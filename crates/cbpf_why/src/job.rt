@@ -11,6 +11,7 @@ ghost use Rattle.cbpf_why.specs.Ends.{ends_of};
 ghost use Rattle.cbpf_why.specs.Graph.{graph_text};
 ghost use Rattle.cbpf_why.specs.Groups.{Keeps, groups_text, totals};
 ghost use Rattle.cbpf_why.specs.Job as spec;
+ghost use Rattle.cbpf_why.specs.Question.{machine_in};
 ghost use Rattle.cbpf_why.specs.Reports as reports;
 ghost use Rattle.cbpf_why.specs.declared.ended.Ended.{Ended as AnEnded};
 ghost use Rattle.cbpf_why.specs.declared.job.WhyFault.TheVariants as fault;
@@ -95,13 +96,13 @@ fn write_counted_graph<P: Allocator, A: Allocator + Copy, W: Write>(
     counted: &Counted<A>,
 ) -> Result<(), WhyFault>
     requires { (records : List Record)
-        × Keeps counted.now.groups (length question.now.program.now) (ends_of (spec.machine_in question.now) records)
-        × spec.Tallies counted.now.tally (spec.machine_in question.now) records }
+        × Keeps counted.now.groups (length question.now.program.now) (ends_of (machine_in question.now) records)
+        × spec.Tallies counted.now.tally (machine_in question.now) records }
     ensures { (records : List Record)
-        → Keeps counted.now.groups (length question.now.program.now) (ends_of (spec.machine_in question.now) records)
-        → spec.Tallies counted.now.tally (spec.machine_in question.now) records
+        → Keeps counted.now.groups (length question.now.program.now) (ends_of (machine_in question.now) records)
+        → spec.Tallies counted.now.tally (machine_in question.now) records
         → spec.Closed (W.contents w.old) (W.contents w.new) result
-        (graph_text (spec.machine_in question.now) records (ends_of (spec.machine_in question.now) records)) }
+        (graph_text (machine_in question.now) records (ends_of (machine_in question.now) records)) }
 {
     let Ok(begins) = block_begins(alloc, question.program) else {
         return Err(WhyFault::Memory);
@@ -124,9 +125,9 @@ fn write_counted_coverage<P: Allocator, A: Allocator + Copy, W: Write>(
     question: &Question<'_, P>,
     counted: &Counted<A>,
 ) -> Result<(), WriteFault>
-    requires { (records : List Record) × spec.Tallies counted.now.tally (spec.machine_in question.now) records }
-    ensures { (records : List Record) → spec.Tallies counted.now.tally (spec.machine_in question.now) records
-        → Wrote (W.contents w.old) (W.contents w.new) result (coverage_text (spec.machine_in question.now) records) }
+    requires { (records : List Record) × spec.Tallies counted.now.tally (machine_in question.now) records }
+    ensures { (records : List Record) → spec.Tallies counted.now.tally (machine_in question.now) records
+        → Wrote (W.contents w.old) (W.contents w.new) result (coverage_text (machine_in question.now) records) }
 {
     write_coverage(w, question.program, counted.tally.runs())
 }
@@ -152,7 +153,7 @@ fn write_closing<P: Allocator, A: Allocator + Copy, W: Write>(
     requires { (records : List Record) × spec.Took question.now counted.now records }
     ensures { (records : List Record) → spec.Took question.now counted.now records
         → spec.Closed (W.contents w.old) (W.contents w.new) result
-        (reports.closing_text question.now.report (spec.machine_in question.now) records end) }
+        (reports.closing_text question.now.report (machine_in question.now) records end) }
 {
     let p = question.program;
     match question.report {
@@ -213,7 +214,7 @@ pub fn why<P: Allocator, A: Allocator + Copy, R: Read, B: Allocator, W: Write>(
     requires count { reader.old.count ≡ 0 }
     requires sorted { AreSorted question.now.packets.now }
     ensures { IfSome reader.old.left (λ c. reports.Reported question.now.report question.now.packets.now
-        (spec.machine_in question.now) c reader.new.count (W.contents w.old) (W.contents w.new) result) }
+        (machine_in question.now) c reader.new.count (W.contents w.old) (W.contents w.new) result) }
 {
     let Ok(mut counted) = Counted::new(alloc, question.program) else {
         return Err(WhyFault::Memory);

@@ -8,6 +8,7 @@ ghost use Rattle.pcap_classic.specs.Records.{Record};
 ghost use Rattle.cbpf_why.specs.Chosen.{AreSorted};
 ghost use Rattle.cbpf_why.specs.Ends.{ended};
 ghost use Rattle.cbpf_why.specs.Job as spec;
+ghost use Rattle.cbpf_why.specs.Question.{machine_in};
 ghost use Rattle.cbpf_why.specs.Packets.{packet_line};
 ghost use Rattle.cbpf_why.specs.Reports as reports;
 ghost use Rattle.cbpf_why.specs.declared.job.WhyFault.TheVariants as fault;
@@ -42,7 +43,7 @@ fn write_line_of<P: Allocator, W: Write>(
     record: &Captured<'_>,
 ) -> Result<(), WriteFault>
     ensures { Wrote (W.contents w.old) (W.contents w.new) result
-        (packet_line (ended (spec.machine_in question.now) (record_of record.now))) }
+        (packet_line (ended (machine_in question.now) (record_of record.now))) }
 {
     let task = Task {
         program: question.program,
@@ -62,7 +63,7 @@ fn take_packet<P: Allocator, A: Allocator + Copy, W: Write>(
 ) -> Result<(), WriteFault>
     requires { (records : List Record) × spec.Took question.now counted.old records × (length records + 1 < 2 ^ 64) }
     ensures wrote { Wrote (W.contents w.old) (W.contents w.new) result
-        (reports.packet_text question.now.report (spec.machine_in question.now) (record_of record.now)) }
+        (reports.packet_text question.now.report (machine_in question.now) (record_of record.now)) }
     ensures took { (records : List Record) → spec.Took question.now counted.old records
         → OnOk result (spec.Took question.now counted.new (records ++ record_of record.now ∷ [])) }
 {
