@@ -5,7 +5,7 @@ use Rattle.std.specs.Prelude.{nat_lt, if◌then◌else◌}
 use Rattle.pcap_classic.specs.FileNumbers.{number_at}
 use Rattle.std.proofs.lemmas.Bool.{ltb-false, ltb-true}
 use Rattle.std.proofs.lemmas.Bool.Decides.{nat_tests}
-use Rattle.pcap_classic.specs.Savefile.{Savefile, IsSavefile, IsRefusal, HasMagic, HasVersion, OneCapture, OneRefusal}
+use Rattle.pcap_classic.specs.Savefile.{Savefile, IsSavefile, IsRefusal, HasMagic, HasVersion, OneCapture, OneRefusal, OnlyMemory}
 use Rattle.pcap_classic.specs.Savefile.{HasAnswer, capture_fault}
 use Rattle.pcap_classic.specs.Contents.{magic_of, is_version_2_4, header_by_magic, header_of, savefile_with}
 use Rattle.pcap_classic.specs.declared.captured.Endianness.{Endianness, TheVariants.Big, TheVariants.Little}
@@ -85,9 +85,7 @@ one_capture file c d h k =
     (rw magic.0 at k.contents) in
     same_savefile c d magic.1 link same.0 same.1
 
--- a file that holds a capture has no other fault than `Memory`
-pub only_memory : (file : List ℕ) (c : Savefile) (e : CaptureFault) → IsSavefile file c → IsRefusal e file
-    → e ≡ Memory
+pub only_memory : OnlyMemory
 only_memory file c Memory h k = refl
 only_memory file c FileHeaderCut h k = let long = h.long in absurd (omega (arith, k))
 only_memory file c UnknownMagic h k = absurd (k.1 h.order c.nanos h.magic)

@@ -66,6 +66,10 @@ OneCapture = (file : List ℕ) (c d : Savefile) → IsSavefile file c → IsSave
 abbrev pub OneRefusal : Type 0
 OneRefusal = (file : List ℕ) (e f : CaptureFault) → IsRefusal e file → IsRefusal f file → f ≡ e
 
+-- a file that holds a capture has no fault but `Memory`
+abbrev pub OnlyMemory : Type 0
+OnlyMemory = (file : List ℕ) (c : Savefile) (e : CaptureFault) → IsSavefile file c → IsRefusal e file → e ≡ Memory
+
 -- each file holds a capture, or has a fault
 abbrev pub HasAnswer : Type 0
 HasAnswer = (file : List ℕ) → ((c : Savefile) × IsSavefile file c) ⊎ ((e : CaptureFault) × IsRefusal e file)
