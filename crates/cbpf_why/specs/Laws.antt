@@ -1,30 +1,22 @@
 -- What the verdicts and the totals of a report are, by the outcomes of packets (Linux Documentation/networking/filter: a
 -- packet passes where a run of the filter on it returns a number other than 0).
-use Rattle.std.specs.Prelude.{◌≡◌, Bool, List, map, count_by}
+use Rattle.std.specs.Prelude.{◌≡◌, List, map, count_by}
 use Rattle.cbpf_machine.specs.Machine.{Machine}
+use Rattle.cbpf_machine.specs.Outcomes.{is_fail, is_pass, is_unknown}
 use Rattle.cbpf_machine.specs.Trace.{outcome}
 use Rattle.cbpf_machine.specs.declared.outcome.Outcome.{Outcome}
 use Rattle.cbpf_reply.specs.declared.reply.Counts.{Counts}
 use Rattle.pcap_classic.specs.Records.{Record}
-use Rattle.cbpf_why.specs.Ends.{ended, ends_of, is_verdict, kind_of, verdict_of}
+use Rattle.cbpf_why.specs.Ends.{ended, ends_of, kind_of, verdict_of}
 use Rattle.cbpf_why.specs.Groups.{totals}
-use Rattle.cbpf_why.specs.declared.ended.Verdict.{Verdict}
-use Rattle.cbpf_why.specs.declared.ended.Verdict.TheVariants.{Pass, Fail, Unknown}
 
 -- the outcomes of packets
 abbrev pub outcomes_of : Machine → List Record → List Outcome
 outcomes_of m records = map (λ r. outcome m r.bytes r.wire) records
 
-abbrev pub is_kind : Verdict → Outcome → Bool
-is_kind v o = is_verdict v (kind_of o)
-
 -- how many outcomes there are of each kind
 abbrev pub counts_of : List Outcome → Counts
-counts_of all = record {
-  passes = count_by (is_kind Pass) all;
-  fails = count_by (is_kind Fail) all;
-  unknown = count_by (is_kind Unknown) all;
-}
+counts_of all = record { passes = count_by is_pass all; fails = count_by is_fail all; unknown = count_by is_unknown all }
 
 -- the verdict on a packet is the kind of its outcome
 abbrev pub VerdictIsOutcome : Type 0
