@@ -29,7 +29,7 @@ use Rattle.cbpf_dbg.specs.Joined.{Entry, entries_from, packet_entries, joined_fr
 use Rattle.cbpf_dbg.specs.View.{View, start}
 use Rattle.cbpf_dbg.specs.Commands.{Answer, reply_of, view_after, run, run_in, run_to, run_out, within_limit, stopped}
 use Rattle.cbpf_dbg.specs.Commands.{finished, limited, step, step_in, step_to, entry_in, back_place, back_at, steps_of, last_place, run_to_end}
-use Rattle.cbpf_dbg.specs.Here.{stop_of, entry_of, stop_here, CanReturn, Returns, IsHere}
+use Rattle.cbpf_dbg.specs.Here.{stop_of, entry_of, stop_here, CanReturn, StopsHere, IsHere}
 use Rattle.cbpf_dbg.proofs.JoinedLemmas.{entry, rest-ahead}
 use Rattle.cbpf_dbg.proofs.ResumeLemmas.{taken}
 use Rattle.cbpf_dbg.proofs.ShownStops.{All-slice_get}
@@ -143,36 +143,36 @@ module _ (machine : Machine) (c : Savefile) (v : View) (h : HasLoaded machine c 
   returns-rest breakpoints place same =
       subst (λ (b : Breakpoints). All (CanReturn v) (stops_after machine c.records b place)) same (rest-returns place)
 
-  out-at : (n : ℕ) (b : Bool) → OfAnswer Returns (Ok (cond b (limited v machine c.records n) (finished v machine c.records)))
+  out-at : (n : ℕ) (b : Bool) → OfAnswer StopsHere (Ok (cond b (limited v machine c.records n) (finished v machine c.records)))
   out-at n true = tt
   out-at n false = tt
 
-  out-returns : (limit : Option ℕ) → OfAnswer Returns (Ok (run_out v machine c.records limit))
+  out-returns : (limit : Option ℕ) → OfAnswer StopsHere (Ok (run_out v machine c.records limit))
   out-returns None = tt
   out-returns (Some n) = out-at (v.place.packet + n) (nat_le (v.place.packet + n) (length c.records))
 
   stop-returns : (limit : Option ℕ) (stop : Stop) (b : Bool) → CanReturn v stop
-      → OfAnswer Returns (Ok (cond b (stopped v stop) (run_out v machine c.records limit)))
+      → OfAnswer StopsHere (Ok (cond b (stopped v stop) (run_out v machine c.records limit)))
   stop-returns limit stop true can = (record { resumable = can.resumable; here_is = can.here_is }, can.here_is)
   stop-returns limit stop false can = out-returns limit
 
   to-returns : (limit : Option ℕ) (hits : List Stop) → All (CanReturn v) hits
-      → OfAnswer Returns (Ok (run_to v machine c.records limit hits))
+      → OfAnswer StopsHere (Ok (run_to v machine c.records limit hits))
   to-returns limit [] all = out-returns limit
   to-returns limit (stop ∷ hits) all =
       stop-returns limit stop (within_limit limit (stop.place.packet - v.place.packet))
       (All-head (CanReturn v) stop hits all)
 
-  in-returns : (limit : Option ℕ) → OfAnswer Returns (run_in v machine c.records limit)
+  in-returns : (limit : Option ℕ) → OfAnswer StopsHere (run_in v machine c.records limit)
   in-returns None = to-returns None _ (rest-returns v.place)
   in-returns (Some zero) = tt
   in-returns (Some (suc n)) = to-returns (Some (suc n)) _ (rest-returns v.place)
 
   -- what a run answers
-  pub run-returns : (limit : Option ℕ) → OfAnswer Returns (run v limit)
+  pub run-returns : (limit : Option ℕ) → OfAnswer StopsHere (run v limit)
   run-returns limit =
       let ran : run v limit ≡ run_in v machine c.records limit = rw (h.program, h.values, h.capture) refl in
-      subst (OfAnswer Returns) (sym ran) (in-returns limit)
+      subst (OfAnswer StopsHere) (sym ran) (in-returns limit)
 
   on-here : (o : Option Entry) → ((e : Entry) → o ≡ Some e → IsThere machine c.records e)
       → OfAnswer IsHere (Ok (step_to v machine c.records o))

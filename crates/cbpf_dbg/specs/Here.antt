@@ -39,9 +39,9 @@ pub record CanReturn (m : View) (stop : Stop) : Type 0 where
   pub here_is : stop_here (record m { place = stop.place }) ≡ Some stop
 
 -- the stop that an answer of `run` has, if it has one, is the one at the place, and can be gone back to
-abbrev pub Returns : View → RunReply → Type 0
-Returns m (Stopped stop) = CanReturn m stop × (stop_here m ≡ Some stop)
-Returns m _ = Unit {0}
+abbrev pub StopsHere : View → RunReply → Type 0
+StopsHere m (Stopped stop) = CanReturn m stop × (stop_here m ≡ Some stop)
+StopsHere m _ = Unit {0}
 
 -- the stop that an answer of `step` has, if it has one, is the one at the place, whatever the reason
 abbrev pub IsHere : View → RunReply → Type 0

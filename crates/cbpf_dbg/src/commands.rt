@@ -1,7 +1,7 @@
 //! The commands of a session that ask or move its place.
 
 ghost use Rattle.std.specs.Prelude.{◌≡◌, ◌≤◌, ◌<◌, ◌+◌, length, ◌*◌, ◌^◌, ◌<ℤ◌, pos, IfErr, IfOk, IfSome, OnErr, OnOk};
-ghost use Rattle.cbpf_dbg.specs.Here.{CanReturn, IsHere, Returns, stop_here};
+ghost use Rattle.cbpf_dbg.specs.Here.{CanReturn, IsHere, StopsHere, stop_here};
 ghost use Rattle.cbpf_dbg.specs.Shown.{CanShow, Shows};
 ghost use Rattle.std.specs.List.{All};
 ghost use Rattle.cbpf_code.specs.Writing.{Wrote};
@@ -108,7 +108,7 @@ impl<T: Trail, A: Allocator> Session<T, A> {
         ensures shown { IfOk result (λ reply. Shows self.new reply) }
 
         // The session is at its stop, and can come back to it.
-        ensures returns { IfOk result (λ reply. Returns self.new reply) }
+        ensures returns { IfOk result (λ reply. StopsHere self.new reply) }
     {
         let loaded = loaded_in!(self);
         if let Some(0) = limit {
