@@ -5,14 +5,15 @@ use Rattle.cbpf_code.specs.Text.{concat, with_number}
 use Rattle.cbpf_reply.specs.Dump.{why_line}
 use Rattle.cbpf_reply.specs.declared.reply.Stop.{Stop}
 
-abbrev pub registers_text : Stop → List ℕ
-registers_text s =
+-- packet, step, instruction, A and X of a stop
+abbrev pub stop_head : Stop → List ℕ
+stop_head s =
     concat (decimal s.place.packet ∷ codes " " ∷ decimal s.place.step ∷ codes " l" ∷ decimal s.state.pc ∷ codes " A "
     ∷ decimal s.state.a ∷ codes " X " ∷ decimal s.state.x ∷ codes " " ∷ [])
 
--- a stop: packet, step, instruction, A, X, and why it stopped
+-- the same, and why it stopped
 abbrev pub stop_line : Stop → List ℕ
-stop_line s = registers_text s ++ why_line s.why
+stop_line s = stop_head s ++ why_line s.why
 
 abbrev pub total_text : ℕ → List ℕ
 total_text n = with_number (codes "stops: ") n (codes "\n")

@@ -12,7 +12,7 @@ use Rattle.cbpf_machine.specs.OnPacket.{OnPacket, IsOnTrace, trace_in, turn_in}
 use Rattle.cbpf_machine.specs.Trace.{last_or, next_of}
 use Rattle.cbpf_machine.specs.declared.outcome.Turn.{Turn}
 use Rattle.cbpf_machine.specs.declared.outcome.Turn.TheVariants.{Next, Returned, Outside, ZeroDivisor, Unknown}
-use Rattle.cbpf_machine.specs.Ways.{is_test, last_test, test_of}
+use Rattle.cbpf_machine.specs.Ways.{is_test_at, last_test, test_of}
 use Rattle.cbpf_machine.proofs.TraceLemmas.{goes_last, trace-is_run}
 use Rattle.cbpf_machine.proofs.WayLemmas.{take_next}
 
@@ -66,7 +66,7 @@ module _ (t : OnPacket) (sound : IsSound t.machine.list) where
 
   pub test_inside : IfSome (option_map test_of (last_test t.machine.list (trace_in t))) (λ o. o.pc < length t.machine.list)
   test_inside = test_within _ (last_test t.machine.list (trace_in t))
-      (filter_within _ (is_test t.machine.list) (trace_in t) (trace-is_run t sound).inside _)
+      (filter_within _ (is_test_at t.machine.list) (trace_in t) (trace-is_run t sound).inside _)
 
 -- a turn that goes on
 pub next_is : (o : Turn) (s : Registers) → next_of o ≡ Some s → o ≡ Next s
