@@ -3,9 +3,14 @@
 use Rattle.std.specs.Prelude.{ℕ, ◌-◌, List, [], ◌∷◌, length, codes, decimal}
 use Rattle.cbpf_code.specs.Text.{concat, spaces, hex}
 
-abbrev pub labelled : List ℕ → List (List ℕ) → List ℕ
-labelled label pieces = concat (label ∷ spaces (10 - length label) ∷ pieces)
+-- the pieces of a line: a label with the spaces after it, and what follows
+abbrev pub labelled : List ℕ → List (List ℕ) → List (List ℕ)
+labelled label pieces = label ∷ spaces (10 - length label) ∷ pieces
 
 -- a label with a value in hexadecimal and in decimal
+abbrev pub value_pieces : List ℕ → ℕ → List (List ℕ)
+value_pieces label v = labelled label (codes "[" ∷ hex 8 v ∷ codes "][" ∷ decimal v ∷ codes "]\n" ∷ [])
+
+-- the line of a label with a value
 abbrev pub value_line : List ℕ → ℕ → List ℕ
-value_line label v = labelled label (codes "[" ∷ hex 8 v ∷ codes "][" ∷ decimal v ∷ codes "]\n" ∷ [])
+value_line label v = concat (value_pieces label v)

@@ -3,8 +3,9 @@
 use Rattle.std.specs.Prelude.{ℕ, List, [], ◌∷◌, ◌++◌, length, Option, Some, None, slice_get, decimal, codes}
 use Rattle.cbpf_code.specs.declared.insn.Insn.{Insn}
 use Rattle.cbpf_code.specs.Extension.{ext_name}
-use Rattle.cbpf_code.specs.Text.{concat, hex}
+use Rattle.cbpf_code.specs.Text.{concat}
 use Rattle.cbpf_code.specs.Listing.{line_text}
+use Rattle.cbpf_reply.specs.Columns.{labelled, value_pieces}
 use Rattle.cbpf_reply.specs.Scratch.{scratch_lines}
 use Rattle.cbpf_reply.specs.Packet.{packet_head, packet_rows}
 use Rattle.cbpf_reply.specs.declared.reply.Why.{Why}
@@ -28,19 +29,17 @@ pub record Shown : Type 0 where
 abbrev pub place_lines : ℕ → ℕ → ℕ → List ℕ → Option Insn → List ℕ
 place_lines packet step pc line None = []
 place_lines packet step pc line (Some i) =
-    concat (codes "-- packet " ∷ decimal packet ∷ codes ", step " ∷ decimal step
-    ∷ codes " --\n-- register dump --\npc:       [" ∷ decimal pc ∷ codes "]\ncode:     [" ∷ decimal i.code
-    ∷ codes "] jt[" ∷ decimal i.jt ∷ codes "] jf[" ∷ decimal i.jf ∷ codes "] k[" ∷ decimal i.k
-    ∷ codes "]\ncurr:     " ∷ line ∷ codes "\n" ∷ [])
+    concat (codes "-- packet " ∷ decimal packet ∷ codes ", step " ∷ decimal step ∷ codes " --\n-- register dump --\n"
+    ∷ labelled (codes "pc:") (codes "[" ∷ decimal pc ∷ codes "]\n"
+    ∷ labelled (codes "code:") (codes "[" ∷ decimal i.code ∷ codes "] jt[" ∷ decimal i.jt ∷ codes "] jf[" ∷ decimal i.jf
+    ∷ codes "] k[" ∷ decimal i.k ∷ codes "]\n" ∷ labelled (codes "curr:") (line ∷ codes "\n" ∷ []))))
 
 unfoldable pub instruction_dump : List Insn → ℕ → ℕ → ℕ → List ℕ
 instruction_dump list packet step pc = place_lines packet step pc (line_text list pc) (slice_get list pc)
 
 -- each in hexadecimal and in decimal
 unfoldable pub register_lines : ℕ → ℕ → List ℕ
-register_lines a x =
-    concat (codes "A:        [" ∷ hex 8 a ∷ codes "][" ∷ decimal a ∷ codes "]\nX:        [" ∷ hex 8 x ∷ codes "]["
-    ∷ decimal x ∷ codes "]\n" ∷ [])
+register_lines a x = concat (value_pieces (codes "A:") a ++ value_pieces (codes "X:") x)
 
 abbrev pub why_text : Why → List ℕ
 why_text why_is.Break = codes "breakpoint"
