@@ -51,6 +51,10 @@ pub record Took {A P : Type 0} (q : Question P) (c : Counted A) (records : List 
   pub groups : Keeps c.groups (length q.program.now) (ends_of (machine_in q) (where_shown (shows_groups q.report) records))
   pub runs : Tallies c.tally (machine_in q) (where_shown (shows_runs q.report) records)
 
+-- the records of a list whose number isn't below a first one
+abbrev pub from_first : ℕ → List Record → List Record
+from_first first records = filter (λ r. nat_le first r.number) records
+
 -- of what was left of a capture the first records were read, and those were taken whose number is not below a range's
 -- first one
 pub record TookFrom (first : ℕ) (s rest : Savefile) (before after : ℕ) (more : List Record) : Type 0 where
@@ -58,7 +62,7 @@ pub record TookFrom (first : ℕ) (s rest : Savefile) (before after : ℕ) (more
   pub split : s ≡ record rest { records = front ++ rest.records }
   pub counted : after ≡ before + length front
   pub numbered : (i : ℕ) (r : Record) → slice_get front i ≡ Some r → r.number ≡ before + i + 1
-  pub taken : more ≡ filter (λ r. nat_le first r.number) front
+  pub taken : more ≡ from_first first front
 
 -- what is known of the capture before and after, where anything is
 abbrev pub TookFromKnown : ℕ → Option Savefile → Option Savefile → ℕ → ℕ → List Record → Type 0
@@ -122,10 +126,6 @@ LeavesKnown before None new one = Unit {0}
 LeavesKnown before (Some s) new one = (rest : Savefile) × (new ≡ Some rest)
     × (s ≡ record rest { records = one ++ rest.records })
     × ((r : Record) → slice_get one 0 ≡ Some r → r.number ≡ before + 1)
-
--- the records of a list whose number isn't below a first one
-abbrev pub from_first : ℕ → List Record → List Record
-from_first first records = filter (λ r. nat_le first r.number) records
 
 -- a record was read and taken, or there was none
 pub record Stepped {A P : Type 0} (q : Question P) (first : ℕ) (records : List Record) (old new : Reading) (c : Counted A)
