@@ -9,7 +9,7 @@ use Rattle.cbpf_code.specs.declared.insn.Insn.{Insn}
 abbrev pub hex_prefix : ℕ → List ℕ
 hex_prefix n = if n == 0 then codes "00" else codes "0x"
 
--- what stands before a decimal number, so that it is right in two places
+-- what stands before a decimal number, so that it is aligned right in two columns
 abbrev pub padding : ℕ → List ℕ
 padding n = spaces (2 - length (decimal n))
 
@@ -20,5 +20,6 @@ c_line i = concat (
     ∷ padding i.jf ∷ decimal i.jf
     ∷ codes ", " ∷ hex_prefix i.k ∷ hex 8 i.k ∷ codes " },\n" ∷ [])
 
+-- the lines of all instructions, in order
 abbrev pub c_form : List Insn → List ℕ
 c_form list = flat_map c_line list

@@ -26,7 +26,7 @@ CanFollow Ja insn i t = IsTarget Ja insn i t
 CanFollow (Jump cond src) insn i t = IsTarget (Jump cond src) insn i t
 CanFollow _ insn i t = t ≡ i + 1
 
--- the same where the code may be unknown
+-- the same where the code may be unknown: an unknown one goes on to the next instruction
 abbrev pub CanFollowCode : Option Op → Insn → ℕ → ℕ → Type 0
 CanFollowCode (Some op) insn i t = CanFollow op insn i t
 CanFollowCode None insn i t = t ≡ i + 1

@@ -40,6 +40,7 @@ abbrev pub loads_absolute : Op → Bool
 loads_absolute (LdAbs size) = true
 loads_absolute _ = false
 
+-- a return of a number or of A
 abbrev pub IsReturn : Insn → Type 0
 IsReturn insn = (op_of insn.code ≡ Some RetK) ⊎ (op_of insn.code ≡ Some RetA)
 
@@ -59,7 +60,7 @@ JumpsOutside op insn i n = (t : ℕ) × IsTarget op insn i t × (n ≤ t)
 abbrev pub LoadsNoExtension : Op → Insn → Type 0
 LoadsNoExtension op insn = IsTrue (loads_absolute op) × (FIRST_EXTENSION ≤ insn.k) × (ext_at insn.k ≡ None)
 
--- the order of reports: by rank, and of one rank by the instruction's index
+-- the order of reports: by rank, and of one rank by the instruction's index; C3 to C8 have rank 2
 abbrev pub rank : CheckFault → ℕ
 rank NoInstruction = 0
 rank TooMany = 1
@@ -95,6 +96,7 @@ HasFault list NoReturn = (insn : Insn) × (slice_get list (length list - 1) ≡ 
 HasFault list (UnwrittenSlot i) = InsnAt list i (λ op insn. IsTrue (loads_slot op) × MayBeUnwritten list insn.k i)
 HasFault list e = InsnAt list (index_of e) (λ op insn. InsnHasFault op insn (index_of e) (length list) e)
 
+-- the first fault is reported before the second
 abbrev pub IsEarlier : CheckFault → CheckFault → Type 0
 IsEarlier e f = (rank e < rank f) ⊎ ((rank e ≡ rank f) × (index_of e < index_of f))
 

@@ -58,24 +58,28 @@ abbrev pub text_for : ℕ → Insn → Option Op → List ℕ
 text_for i insn None = []
 text_for i insn (Some op) = operation_text i insn op
 
+-- the instruction at an index: its label, its mnemonic and its operand
 abbrev pub insn_text : ℕ → Insn → List ℕ
 insn_text i insn = text_for i insn (op_of insn.code)
 
+-- the instruction at an index, where the list has one
 abbrev pub text_where : ℕ → Option Insn → List ℕ
 text_where i None = []
 text_where i (Some insn) = insn_text i insn
 
--- line i without its newline, and with it
+-- line i without its newline
 abbrev pub line_text : List Insn → ℕ → List ℕ
 line_text list i = text_where i (slice_get list i)
 
+-- line i with its newline
 abbrev pub whole_line : List Insn → ℕ → List ℕ
 whole_line list i = line_text list i ++ codes "\n"
 
--- all lines in order
+-- the line of an instruction that stands beside its index, with its newline
 abbrev pub numbered_line : ℕ × Insn → List ℕ
 numbered_line e = insn_text e.0 e.1 ++ codes "\n"
 
+-- all lines in order
 abbrev pub listing : List Insn → List ℕ
 listing list = flat_map numbered_line (enumerate_from 0 list)
 
@@ -86,5 +90,6 @@ shown_for insn None =
     concat (decimal insn.code ∷ codes " " ∷ decimal insn.jt ∷ codes " " ∷ decimal insn.jf ∷ codes " " ∷ decimal insn.k
     ∷ [])
 
+-- an instruction by itself, as it is shown
 abbrev pub shown_text : Insn → List ℕ
 shown_text insn = shown_for insn (op_of insn.code)

@@ -8,6 +8,7 @@ use Rattle.cbpf_code.specs.declared.message.Message.TheVariants.{Text, Number, N
 use Rattle.cbpf_code.specs.declared.words.WordFault.{WordFault}
 use Rattle.cbpf_code.specs.declared.words.WordFault.TheVariants as word
 
+-- a text by itself, or texts around one number or two
 abbrev pub message_text : Message → List ℕ
 message_text (Text text) = text.now
 message_text (Number before n after) = with_number before.now n after.now
@@ -19,6 +20,7 @@ out_of_memory = codes "out of memory"
 abbrev pub write_fault : List ℕ
 write_fault = codes "write fault"
 
+-- N1 to N5, which name a byte by its place in the text, or two counts; out of memory has no number
 abbrev pub word_message : WordFault → List ℕ
 word_message word.Memory = out_of_memory
 word_message (word.NumberExpected p) = with_number (codes "N1 at byte ") p (codes ": number expected")
@@ -28,6 +30,7 @@ word_message (word.CountDiffers said found) =
     with_numbers (codes "N4 count says ") said (codes ", found ") found (codes "")
 word_message (word.CommaExpected p) = with_number (codes "N5 at byte ") p (codes ": comma expected")
 
+-- C1 to C10, which name an instruction by its index where they have one
 abbrev pub check_message : CheckFault → List ℕ
 check_message check.NoInstruction = codes "C1 no instruction"
 check_message check.TooMany = codes "C2 more than 4096 instructions"

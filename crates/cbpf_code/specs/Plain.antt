@@ -24,9 +24,11 @@ abbrev pub uses_offsets : Op → Bool
 uses_offsets (Jump cond src) = true
 uses_offsets _ = false
 
+-- a number, or 0 where its field is not used
 abbrev pub kept : Bool → ℕ → ℕ
 kept b n = if b then n else 0
 
+-- an unknown code leaves the instruction as it is
 abbrev pub plain_for : Insn → Option Op → Insn
 plain_for insn None = insn
 plain_for insn (Some op) = record insn {
@@ -35,5 +37,6 @@ plain_for insn (Some op) = record insn {
   k = kept (uses_k op) insn.k;
 }
 
+-- the instruction with 0 in each field that its operation does not use
 abbrev pub plain : Insn → Insn
 plain insn = plain_for insn (op_of insn.code)

@@ -28,6 +28,7 @@ pub data Operand : Type 0 where
   ImmediateTwo : Operand
   XTwo : Operand
 
+-- the mnemonic of an operation in a listing
 abbrev pub mnemonic_of : Op → List ℕ
 mnemonic_of LdImm = codes "ld"
 mnemonic_of (LdAbs Word) = codes "ld"
@@ -65,6 +66,7 @@ mnemonic_of RetA = codes "ret"
 mnemonic_of Tax = codes "tax"
 mnemonic_of Txa = codes "txa"
 
+-- what stands after it
 abbrev pub operand_of : Op → Operand
 operand_of LdImm = Immediate
 operand_of (LdAbs size) = Absolute

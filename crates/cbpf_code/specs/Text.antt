@@ -8,7 +8,7 @@ use Rattle.std.specs.Fmt.{digits}
 abbrev pub concat : List (List ℕ) → List ℕ
 concat parts = flat_map (λ p. p) parts
 
--- a byte at the front of the first of some parts
+-- a byte at the front of the first of some parts, by which words and lines are built byte by byte
 abbrev pub put_front : ℕ → List (List ℕ) → List (List ℕ)
 put_front b [] = (b ∷ []) ∷ []
 put_front b (part ∷ parts) = (b ∷ part) ∷ parts

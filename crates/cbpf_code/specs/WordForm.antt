@@ -11,6 +11,7 @@ word_line i =
     concat (decimal i.code ∷ codes " " ∷ decimal i.jt ∷ codes " " ∷ decimal i.jf ∷ codes " " ∷ decimal i.k
     ∷ codes "," ∷ [])
 
+-- the number of instructions and a comma, all instructions, and a newline
 abbrev pub word_text : List Insn → List ℕ
 word_text list = decimal (length list) ++ codes "," ++ flat_map word_line list ++ codes "\n"
 

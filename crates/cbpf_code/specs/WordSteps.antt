@@ -16,7 +16,7 @@ pub record PassesTokens (text : List ℕ) (due : Due) (at : ℕ) (ns : List ℕ)
   pub good : fault_from text due at ≡ fault_from text next end
   pub spelled : numbers (tokens_after text at) ≡ ns ++ numbers (tokens_after text end)
 
--- what is wrong from a place on, or no token is left and this is wrong with the end
+-- `e` is the first thing wrong from a place on; where no token is left there, it may also be `at_end`
 abbrev pub IsFaultAt : List ℕ → Due → ℕ → WordFault → WordFault → Type 0
 IsFaultAt text due at e at_end = (fault_from text due at ≡ Some e) ⊎ ((tokens_after text at ≡ []) × (e ≡ at_end))
 

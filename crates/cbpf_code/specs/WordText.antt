@@ -27,7 +27,7 @@ next_due jf = k
 next_due k = comma
 next_due comma = code
 
--- one more than the greatest number, where a number is due
+-- the least number that is too large, where a number is due
 abbrev pub range_of : Due → Option ℕ
 range_of count = Some (2 ^ 32)
 range_of code = Some (2 ^ 16)
@@ -36,7 +36,7 @@ range_of jf = Some (2 ^ 8)
 range_of k = Some (2 ^ 32)
 range_of _ = None
 
--- what is wrong with a token where a comma is due, or a number below a range
+-- what is wrong with a token, where a comma or a number below a limit is due
 abbrev pub token_fault : Option ℕ → WordToken → Option WordFault
 token_fault None (run p ds) = Some (CommaExpected p)
 token_fault None (single p b) = if b == 44 then None else Some (UnexpectedByte p)
@@ -55,9 +55,11 @@ abbrev pub first_fault : Due → ℕ → List WordToken → Option WordFault
 first_fault due n [] = end_fault due n
 first_fault due n (m ∷ ms) = option_or (token_fault (range_of due) m) (first_fault (next_due due) n ms)
 
+-- the first thing wrong with a whole text, but for a count that differs
 abbrev pub fault_of : List ℕ → Option WordFault
 fault_of text = first_fault count (length text) (tokens text)
 
+-- the values of the runs of digits, in order
 abbrev pub numbers : List WordToken → List ℕ
 numbers [] = []
 numbers (run p ds ∷ ms) = decimal_value ds ∷ numbers ms
@@ -68,13 +70,15 @@ abbrev pub in_fours : List ℕ → List Insn
 in_fours (a ∷ b ∷ c ∷ d ∷ ns) = record { code = a; jt = b; jf = c; k = d } ∷ in_fours ns
 in_fours _ = []
 
--- the first number of a text, and the instructions that the others are
+-- the first number of a text
 abbrev pub count_of : List ℕ → ℕ
 count_of text = slice_index (numbers (tokens text)) 0
 
+-- the instructions that its other numbers are
 abbrev pub list_of : List ℕ → List Insn
 list_of text = in_fours (drop 1 (numbers (tokens text)))
 
+-- the text has no fault, its numbers after the count are the list, and the count is right
 pub record Spells (text : List ℕ) (list : List Insn) : Type 0 where
   pub good : fault_of text ≡ None
   pub reads : list ≡ list_of text

@@ -9,6 +9,7 @@ pub data WordToken : Type 0 where
   run : (place : ℕ) (digits : List ℕ) → WordToken
   single : (place : ℕ) (byte : ℕ) → WordToken
 
+-- an ASCII digit
 abbrev pub is_digit : ℕ → Bool
 is_digit b = nat_lt 47 b && nat_lt b 58
 
@@ -28,9 +29,11 @@ tokens_in in_run at (b ∷ bs) =
     else (run at (b ∷ take_while is_digit bs) ∷ tokens_in true (suc at) bs))
     else (if is_blank b then tokens_in false (suc at) bs else (single at b ∷ tokens_in false (suc at) bs))
 
+-- the tokens of a text whose first byte has the place `at`
 abbrev pub tokens_from : ℕ → List ℕ → List WordToken
 tokens_from at text = tokens_in false at text
 
+-- the tokens of a whole text
 abbrev pub tokens : List ℕ → List WordToken
 tokens text = tokens_from 0 text
 

@@ -47,13 +47,15 @@ abbrev pub form_by : Option Text → Form
 form_by None = Decimal
 form_by (Some set) = if bytes_eq set (codes "true") then C else Decimal
 
+-- the form by what was found for the arguments
 abbrev pub form_in : List Row → Form
 form_in rows = form_by (first_of (codes "c") rows)
 
--- by what was found for the arguments of a subcommand
+-- by what was found for the arguments of `asm`
 abbrev pub asm_asked : List Row → Asked
 asm_asked rows = asm (form_in rows) (first_of (codes "file") rows)
 
+-- by what was found for the arguments of `dbg`
 abbrev pub dbg_asked : List Row → Asked
 dbg_asked rows = dbg (first_of (codes "input") rows) (first_of (codes "output") rows)
 
@@ -62,11 +64,12 @@ abbrev pub asked_by : Option (Text × List Row) → Asked
 asked_by None = dbg None None
 asked_by (Some sub) = if bytes_eq sub.0 (codes "asm") then asm_asked sub.1 else dbg_asked sub.1
 
--- what the words of a command line ask for
+-- what the words ask of the program without `why`
 unfoldable pub asked_for : List Text → Asked
 asked_for words = asked_by (subcommand_of cbpf_app words)
 
--- the kinds of faults that a command line may have, of which there are none where it is taken
+-- the kinds of faults that the words may have for the program without `why`, of which there are none where they are
+-- taken
 unfoldable pub faults_in : List Text → List ErrorKind
 faults_in words = fault_of cbpf_app words
 

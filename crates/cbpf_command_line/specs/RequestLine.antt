@@ -77,6 +77,7 @@ pub data Requested : Type 0 where
 abbrev pub is_set : Text → List Row → Bool
 is_set id rows = option_map_or (λ set. bytes_eq set (codes "true")) (first_of id rows) false
 
+-- the flag of a report
 abbrev pub flag_of : Detail → Text
 flag_of Listing = codes "l"
 flag_of Graph = codes "g"
@@ -108,9 +109,11 @@ why_asked rows = record {
   packets = texts_in (codes "packet") rows;
 }
 
+-- the subcommand is `why`
 abbrev pub is_why : Option (Text × List Row) → Bool
 is_why sub = option_map_or (λ s. bytes_eq s.0 (codes "why")) sub false
 
+-- what was found for the arguments of the subcommand
 abbrev pub rows_in : Option (Text × List Row) → List Row
 rows_in sub = option_map_or (λ s. s.1) sub []
 
@@ -118,6 +121,7 @@ rows_in sub = option_map_or (λ s. s.1) sub []
 abbrev pub requested_by : Option (Text × List Row) → Requested
 requested_by sub = if is_why sub then why (why_asked (rows_in sub)) else job (asked_by sub)
 
+-- the same of flags that are set for `why`
 abbrev pub conflict_by : Option (Text × List Row) → Kinds
 conflict_by sub = if is_why sub then conflict_in (rows_in sub) else []
 
@@ -125,11 +129,11 @@ conflict_by sub = if is_why sub then conflict_in (rows_in sub) else []
 unfoldable pub names_why : List Text → Bool
 names_why words = is_why (subcommand_of wide_app words)
 
--- what the words of a command line ask for
+-- what the words ask of the program with `why`
 unfoldable pub requested_for : List Text → Requested
 requested_for words = requested_by (subcommand_of wide_app words)
 
--- the kinds of faults that a command line may have, of which there are none where it is taken
+-- the kinds of faults that the words may have for the program with `why`, whose own words are still texts here
 unfoldable pub request_faults : List Text → Kinds
 request_faults words = or_else (fault_of wide_app words) (conflict_by (subcommand_of wide_app words))
 
@@ -143,6 +147,7 @@ why_meaning w = record {
   packets = map text_of w.packets.items;
 }
 
+-- what `RequestWords` stand for
 abbrev pub request_meaning : RequestWords → Requested
 request_meaning (request.Job j) = job (meaning j)
 request_meaning (request.Why w) = why (why_meaning w)

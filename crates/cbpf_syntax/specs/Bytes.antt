@@ -7,6 +7,7 @@ use Rattle.cbpf_code.specs.WordTokens.{is_digit}
 abbrev pub is_letter : ℕ → Bool
 is_letter b = (nat_le 97 b && nat_le b 122) || (nat_le 65 b && nat_le b 90) || b == 95
 
+-- a letter, `_` or a digit
 abbrev pub is_name_byte : ℕ → Bool
 is_name_byte b = is_letter b || is_digit b
 

@@ -10,7 +10,7 @@ pub data Class : Type 0 where
   the_mark : ℕ → Class
   -- a number that is the literal
   literal : Class
-  -- a number that is the literal's size, after a `-`
+  -- a number that is the absolute value of the literal, after a `-`
   negated : Class
   -- a number of this value, which is no literal
   exactly : ℕ → Class

@@ -18,9 +18,11 @@ extension_names = map (λ e. ext_name e.1) ext_table
 abbrev pub mnemonic_words : List (List ℕ)
 mnemonic_words = map (λ (m : Mnemonic). m.word) mnemonics
 
+-- a mnemonic, an extension's name, or a word of operands
 abbrev pub is_reserved : List ℕ → Bool
 is_reserved w = is_one_of mnemonic_words w || is_one_of extension_names w || is_one_of operand_words w
 
+-- the symbol is of the class
 abbrev pub fits : Class → Symbol → Bool
 fits (the_word v) (word w) = bytes_eq w v
 fits (the_word v) (number n) = false
@@ -44,13 +46,14 @@ fits name (word w) = not (is_reserved w)
 fits name (number n) = false
 fits name (mark b) = false
 
--- the tokens fit the classes one by one: all of them, or as far as the tokens go
+-- the tokens fit the classes one by one, and there are as many of both
 abbrev pub fits_all : List Class → List Lexeme → Bool
 fits_all [] [] = true
 fits_all [] (t ∷ ts) = false
 fits_all (c ∷ cs) [] = false
 fits_all (c ∷ cs) (t ∷ ts) = fits c t.symbol && fits_all cs ts
 
+-- the tokens fit the classes one by one, of which there may be more
 abbrev pub fits_front : List Class → List Lexeme → Bool
 fits_front [] [] = true
 fits_front [] (t ∷ ts) = false

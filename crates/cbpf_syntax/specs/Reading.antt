@@ -10,13 +10,14 @@ use Rattle.cbpf_syntax.specs.Lexemes.Symbol.{word}
 use Rattle.cbpf_syntax.specs.Steps.{IsInstruction, Stuck, starts_with_label}
 use Rattle.cbpf_syntax.specs.Views.{lexeme_of}
 
--- where the text's tokens up to one place end with the old ones, those up to another end with the new
+-- where the tokens up to one place are some taken ones and the old, those up to the other are the same taken ones and
+-- the new
 abbrev pub ReadsOn : List ℕ → ℕ → ℕ → List Lexeme → List Lexeme → Type 0
 ReadsOn text at to old new =
     (taken : List Lexeme) → AreLexemesTo text at (taken ++ old) → AreLexemesTo text to (taken ++ new)
 
--- a text whose tokens were read to a place, with those that were not taken; the place of the last one that was taken,
--- and of the first literal of them that is too large
+-- a text whose tokens were read to a place, with those that were not taken; whether its end was read; the place of the
+-- last one that was taken, and of the first literal of them that is too large
 pub record Ahead : Type 0 where
   pub text : List ℕ
   pub to : ℕ
@@ -29,6 +30,7 @@ pub record Ahead : Type 0 where
 abbrev pub left : Ahead → ℕ
 left a = (length a.text - a.to) + length a.tokens
 
+-- the first token is a word
 abbrev pub StartsWithWord : List Lexeme → Type 0
 StartsWithWord ts = (w : List ℕ) × (symbol_at ts 0 ≡ Some (word w))
 

@@ -14,6 +14,7 @@ pub data ParseFault : Type 0 where
   LargeNegative : ParseFault
   Unfinished : ParseFault
 
+-- what the token at the place says
 abbrev pub symbol_at : List Lexeme → ℕ → Option Symbol
 symbol_at ts i = option_map (λ (t : Lexeme). t.symbol) (slice_get ts i)
 
@@ -32,7 +33,7 @@ abbrev pub is_large : Option Symbol → Option Symbol → Bool
 is_large (Some (mark b)) (Some (number n)) = b == 45 && nat_lt most_negative n
 is_large sign digits = false
 
--- the token before the one at the place and this one are so
+-- the number at the place is too large after the `-` before it
 abbrev pub is_large_at : List Lexeme → ℕ → Bool
 is_large_at ts zero = false
 is_large_at ts (suc i) = is_large (symbol_at ts i) (symbol_at ts (suc i))
@@ -82,5 +83,6 @@ reported_at Misplaced = reported.Misplaced
 reported_at LargeNegative = reported.LargeNegative
 reported_at Unfinished = reported.Unfinished
 
+-- the tokens are refused for nothing
 abbrev pub IsAccepted : List Lexeme → Type 0
 IsAccepted ts = (fault : ParseFault) (place : ℕ) → IsRefusedAt ts fault place → ⊥

@@ -24,8 +24,10 @@ pub record Row : Type 0 where
   pub mnemonic : List ℕ
   pub operand : List Class
   pub op : Op
+  -- the literal goes to k; targets go to k with `Goto`, to jt and jf with `Branch`, and to jf with `Swapped`
   pub fields : Fields
 
+-- the classes of the mnemonic and of its operand
 abbrev pub classes : Row → List Class
 classes row = the_word row.mnemonic ∷ row.operand
 
@@ -35,11 +37,12 @@ pub record TableEntry : Type 0 where
   pub op : Op
   pub fields : Fields
 
+-- a mnemonic with its addressing modes
 pub record Mnemonic : Type 0 where
   pub word : List ℕ
   pub entries : List TableEntry
 
--- the words that are no mnemonics
+-- the words of operands, which are no mnemonics
 abbrev pub x_word : List ℕ
 x_word = codes "x"
 
@@ -55,14 +58,16 @@ memory_word = codes "M"
 abbrev pub operand_words : List (List ℕ)
 operand_words = length_word ∷ x_word ∷ a_word ∷ memory_word ∷ []
 
--- an operand's forms, each a list of classes: the options of one part, and one part after the other
+-- each form of the first part, with each form of the second after it; a form is a list of classes
 infixl 60 ◌·◌
 abbrev pub ◌·◌ : List (List Class) → List (List Class) → List (List Class)
 fs · gs = flat_map (λ f. map (λ g. f ++ g) gs) fs
 
+-- a part that is one token
 abbrev pub one : Class → List (List Class)
 one c = (c ∷ []) ∷ []
 
+-- a part that is one mark
 abbrev pub byte : ℕ → List (List Class)
 byte b = one (the_mark b)
 
@@ -70,74 +75,90 @@ byte b = one (the_mark b)
 abbrev pub signed : List (List Class)
 signed = (literal ∷ []) ∷ (the_mark 43 ∷ literal ∷ []) ∷ (the_mark 45 ∷ negated ∷ []) ∷ []
 
--- `x` and `a`, each with an optional `%`
+-- `x`, with `%` before it or without
 abbrev pub x_operand : List (List Class)
 x_operand = (the_word x_word ∷ []) ∷ (the_mark 37 ∷ the_word x_word ∷ []) ∷ []
 
+-- `a`, with `%` before it or without
 abbrev pub a_operand : List (List Class)
 a_operand = (the_word a_word ∷ []) ∷ (the_mark 37 ∷ the_word a_word ∷ []) ∷ []
 
--- an extension's name and `len`, each with an optional `#`
+-- an extension's name, with `#` before it or without
 abbrev pub extension_operand : List (List Class)
 extension_operand = (extension ∷ []) ∷ (the_mark 35 ∷ extension ∷ []) ∷ []
 
+-- `len`, with `#` before it or without
 abbrev pub length_operand : List (List Class)
 length_operand = (the_word length_word ∷ []) ∷ (the_mark 35 ∷ the_word length_word ∷ []) ∷ []
 
+-- a label's name
 abbrev pub label : List (List Class)
 label = one name
 
--- `[n]`, `[x + n]`, `M[n]`, `#n`, `4*([n]&0xf)`
+-- `[n]`
 abbrev pub absolute : List (List Class)
 absolute = byte 91 · signed · byte 93
 
+-- `[x + n]`
 abbrev pub indexed : List (List Class)
 indexed = byte 91 · x_operand · byte 43 · signed · byte 93
 
+-- `M[n]`
 abbrev pub memory : List (List Class)
 memory = one (the_word memory_word) · byte 91 · signed · byte 93
 
+-- `#n`
 abbrev pub immediate : List (List Class)
 immediate = byte 35 · signed
 
+-- `4*([n]&0xf)`
 abbrev pub header : List (List Class)
 header = one (exactly 4) · byte 42 · byte 40 · byte 91 · signed · byte 93 · byte 38 · one (exactly 15) · byte 41
 
 abbrev pub comma : List (List Class)
 comma = byte 44
 
+-- the form of no tokens
 abbrev pub no_operand : List (List Class)
 no_operand = [] ∷ []
 
+-- an addressing mode by the forms of its operand
 abbrev pub entry : List (List Class) → Op → Fields → TableEntry
 entry forms op fields = record { forms = forms; op = op; fields = fields }
 
+-- the loads of a size from the packet and from an extension
 abbrev pub load : Size → List TableEntry
 load s = entry absolute (LdAbs s) Constant ∷ entry indexed (LdInd s) Constant
     ∷ entry extension_operand (LdAbs s) Constant ∷ []
 
+-- a conditional jump with one target
 abbrev pub one_target : Cond → Fields → List TableEntry
 one_target c fields = entry (immediate · comma · label) (Jump c src.K) fields
     ∷ entry (x_operand · comma · label) (Jump c src.X) fields ∷ []
 
+-- a conditional jump with two targets
 abbrev pub two_targets : Cond → List TableEntry
 two_targets c = entry (immediate · comma · label · comma · label) (Jump c src.K) Branch
     ∷ entry (x_operand · comma · label · comma · label) (Jump c src.X) Branch ∷ []
 
+-- a word with its addressing modes
 abbrev pub mnemonic : List ℕ → List TableEntry → Mnemonic
 mnemonic word entries = record { word = word; entries = entries }
 
--- under the word that a listing writes: one addressing mode, a conditional jump, an operation of arithmetic
+-- under the word that a listing writes, one addressing mode
 abbrev pub only : List (List Class) → Op → Fields → Mnemonic
 only forms op fields = mnemonic (mnemonic_of op) (entry forms op fields ∷ [])
 
+-- under the word that a listing writes, a conditional jump with two targets or one
 abbrev pub conditional : Cond → Mnemonic
 conditional c = mnemonic (mnemonic_of (Jump c src.K)) (two_targets c ++ one_target c Branch)
 
+-- under the word that a listing writes, an operation with a constant or with x
 abbrev pub arithmetic : AluOp → Mnemonic
 arithmetic op = mnemonic (mnemonic_of (Alu op src.K))
     (entry immediate (Alu op src.K) Constant ∷ entry x_operand (Alu op src.X) Constant ∷ [])
 
+-- all mnemonics
 unfoldable pub mnemonics : List Mnemonic
 mnemonics =
     mnemonic (mnemonic_of LdImm)
@@ -164,9 +185,11 @@ mnemonics =
     ∷ mnemonic (mnemonic_of RetK) (entry immediate RetK Constant ∷ entry a_operand RetA Constant ∷ [])
     ∷ []
 
+-- a row for each form of an addressing mode
 abbrev pub entry_rows : List ℕ → TableEntry → List Row
 entry_rows word e = map (λ form. record { mnemonic = word; operand = form; op = e.op; fields = e.fields }) e.forms
 
+-- the rows of all addressing modes of a mnemonic
 abbrev pub rows_of : Mnemonic → List Row
 rows_of m = flat_map (entry_rows m.word) m.entries
 

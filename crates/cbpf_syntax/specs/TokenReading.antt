@@ -11,7 +11,7 @@ pub record Reading : Type 0 where
   pub text : List ℕ
   pub at : ℕ
 
--- after all tokens up to the one place this is the only one up to the other, which lies farther on
+-- whatever tokens the text has up to `at`, up to `to` it has these and this one
 pub record IsNextToken (text : List ℕ) (at to : ℕ) (token : Token) : Type 0 where
   pub more : (tokens : List Token) → LexesTo text at tokens → LexesTo text to (tokens ++ token ∷ [])
   pub span : IsSpanOf text token

@@ -36,6 +36,7 @@ pub record LexesTo (text : List ℕ) (to : ℕ) (tokens : List Token) : Type 0 w
   pub good : list_all (λ (piece : Piece). is_good piece.kind) pieces ≡ true
   pub spans : tokens ≡ tokens_of 0 pieces
 
+-- the whole text is cut into pieces that are not bad, and these are its tokens
 abbrev pub Lexes : List ℕ → List Token → Type 0
 Lexes text tokens = LexesTo text (length text) tokens
 

@@ -16,7 +16,7 @@ word_bytes s = []
 abbrev pub name_of : Lexeme → List ℕ
 name_of t = word_bytes t.symbol
 
--- labels of the item at an index, each with it
+-- labels of one item, each with the item's index
 abbrev pub labels_of : ℕ → List Lexeme → List (Lexeme × ℕ)
 labels_of index words = map (λ t. (t, index)) words
 
@@ -29,11 +29,12 @@ labels_from index (item ∷ items) = labels_of index item.labels ++ labels_from 
 abbrev pub place_of : List (Lexeme × ℕ) → List ℕ → Option ℕ
 place_of labels name = lookup (λ t. bytes_eq (name_of t) name) labels
 
--- the place in the text of the first label whose name one before it gives, where some stand before all of them
+-- the place in the text of the first label whose name is in `before` or repeats an earlier one
 abbrev pub repeat_after : List (Lexeme × ℕ) → List (Lexeme × ℕ) → Option ℕ
 repeat_after before [] = None
 repeat_after before (l ∷ ls) =
     if is_some (place_of before (name_of l.0)) then Some l.0.at else repeat_after (before ++ (l ∷ [])) ls
 
+-- the place in the text of the first label whose name an earlier one gives
 abbrev pub first_repeat : List (Lexeme × ℕ) → Option ℕ
 first_repeat labels = repeat_after [] labels

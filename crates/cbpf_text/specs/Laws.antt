@@ -12,6 +12,7 @@ use Rattle.cbpf_text.specs.declared.fault.AsmFault.TheVariants.{Memory, At}
 use Rattle.cbpf_text.specs.Assembled.{Assembles}
 use Rattle.cbpf_text.specs.Refusals.{IsRefused}
 
+-- a text assembles to one list of instructions at most
 abbrev pub OneAssembly : Type 0
 OneAssembly = (text : List ℕ) (xs ys : List Insn) → Assembles text xs → Assembles text ys → xs ≡ ys
 
@@ -20,6 +21,7 @@ abbrev pub OneRefusal : Type 0
 OneRefusal = (text : List ℕ) (kind other : AsmKind) (line place : ℕ) → IsRefused text (At kind line)
     → IsRefused text (At other place) → (kind ≡ other) × (line ≡ place)
 
+-- no text that assembles is refused at a line
 abbrev pub NeverBoth : Type 0
 NeverBoth = (text : List ℕ) (xs : List Insn) (kind : AsmKind) (line : ℕ) → Assembles text xs
     → IsRefused text (At kind line) → ⊥

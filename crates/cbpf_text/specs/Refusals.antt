@@ -23,6 +23,7 @@ use Rattle.cbpf_text.specs.declared.placed_fault.PlacedFault.TheVariants as plac
 use Rattle.cbpf_text.specs.Labels.{name_of, labels_from, place_of, first_repeat}
 use Rattle.cbpf_text.specs.Operands.{targets_in}
 
+-- a bad piece, as it is reported
 abbrev pub bad_piece_kind : BadPiece → AsmKind
 bad_piece_kind pieces.NoToken = kinds.NoToken
 bad_piece_kind pieces.OpenComment = kinds.OpenComment
@@ -40,6 +41,7 @@ is_conditional Goto = false
 is_conditional Branch = true
 is_conditional Swapped = true
 
+-- the uses of the item at an index
 abbrev pub uses_of : ℕ → Item → List Use
 uses_of index item =
     map (λ t. record { index = index; target = t; short = is_conditional item.row.fields }) (targets_in item)
@@ -104,7 +106,7 @@ abbrev pub IsRefused : List ℕ → AsmFault → Type 0
 IsRefused text faults.Memory = Unit {0}
 IsRefused text (faults.At kind line) = IsTextFault text kind line
 
--- what `tokens` reports of a text that has none
+-- why a text has no tokens; out of memory says nothing
 abbrev pub IsLexRefused : List ℕ → AsmFault → Type 0
 IsLexRefused text faults.Memory = Unit {0}
 IsLexRefused text (faults.At kind line) = (bad : BadPiece) × (kind ≡ bad_piece_kind bad) × IsFirstBad text bad line

@@ -35,7 +35,7 @@ abbrev pub Finished : List ℕ → Option (List ℕ) → Option (List ℕ) → O
 Finished script left old new f g = (p : Printed script f g) × (p.more ≡ []) × (HasQuit p.ls ⊎ (left ≡ Some []))
     × Appended old new p.text
 
--- where the script that the reader had is known, and the files say what they hold
+-- what was written of a script, what is left of it, and how the files went on, after `Ok` or a fault
 pub record Debugged {X : Type 0} (script : List ℕ) (left old new : Option (List ℕ)) (f g : Source)
     (r : Result X ToolFault) : Type 0 where
   pub outcome : MatchResult r (λ _. Finished script left old new f g) (λ e. Faulted script left old new f g e)

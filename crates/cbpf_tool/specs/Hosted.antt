@@ -6,6 +6,7 @@ use Rattle.cbpf_tool.specs.FileMap.{FileMap}
 use Rattle.cbpf_tool.specs.declared.host.CreateFault.{CreateFault}
 use Rattle.cbpf_tool.specs.declared.host.CreateFault.TheVariants.{NotCreated, Memory}
 
+-- what is done with a machine: a file is opened, created or written, or not, or a text goes to the standard output
 pub data Event : Type 0 where
   opened : (name : List ℕ) → Event
   not_opened : (name : List ℕ) → Event
@@ -27,6 +28,7 @@ pub record Hosted : Type 0 where
 abbrev pub unknown : Hosted
 unknown = record { is_known = false; files = map.empty; input = []; has_output = false; events = [] }
 
+-- the machine after these events too
 abbrev pub and_then : Hosted → List Event → Hosted
 and_then h es = record h { events = h.events ++ es }
 
@@ -48,7 +50,7 @@ Opens remaining old new name (Ok v) = (bytes : List ℕ) × (map.get old.files n
     × (remaining v ≡ Some bytes) × (new ≡ and_then old (opened name ∷ []))
 Opens remaining old new name (Err e) = new ≡ and_then old (not_opened name ∷ [])
 
--- a file was created, and is empty, or it could not be created
+-- a file was created, and is empty; it could not be created; or it was created, and there was no memory for a buffer
 abbrev pub Creates : {V : Type 0} → (V → Option (List ℕ)) → Hosted → Hosted → List ℕ → Result V CreateFault → Type 0
 Creates contents old new name (Ok v) = (contents v ≡ Some []) × (new ≡ and_then old (created name ∷ []))
 Creates contents old new name (Err NotCreated) = new ≡ and_then old (not_created name ∷ [])

@@ -14,7 +14,7 @@ abbrev pub minus : ℕ → ℤ
 minus zero = pos 0
 minus (suc n) = negsuc n
 
--- a number with or without a sign in front; the least number of a sign bit has no counterpart, and is none
+-- a number with or without a sign in front, whose absolute value is at most `most`; so 2 ^ 63 - 1 leaves out -2 ^ 63
 abbrev pub signed_number : ℕ → List ℕ → Option ℤ
 signed_number most [] = None
 signed_number most (b ∷ bs) =

@@ -34,9 +34,11 @@ split_once sign word = option_map (λ i. (take i word, drop (i + 1) word)) (posi
 abbrev pub positive : ℕ → Option ℕ
 positive n = if n == 0 then None else Some n
 
+-- a number from 1 on
 abbrev pub packet_number : List ℕ → Option ℕ
 packet_number word = option_and_then positive (number_up_to (2 ^ 64 - 1) word)
 
+-- the first packet is not above the last
 abbrev pub range_between : ℕ → ℕ → Option PacketRange
 range_between first last = if nat_le first last then Some (record { first = first; last = last }) else None
 
@@ -74,10 +76,11 @@ values_by words = fold (λ values word. with_given values (value_in word)) no_va
 
 -- ---- refusals
 
--- the first word that gives no value, and the first one that names no packets
+-- the first word that gives no value
 abbrev pub no_value : List (List ℕ) → Option (List ℕ)
 no_value words = find (λ word. is_none (value_in word)) words
 
+-- the first word that names no packets
 abbrev pub no_packets : List (List ℕ) → Option (List ℕ)
 no_packets words = find (λ word. is_none (packet_range word)) words
 
@@ -102,7 +105,7 @@ abbrev pub faults_by : Requested → Kinds
 faults_by (job asked) = []
 faults_by (why asked) = why_faults asked
 
--- the kinds of faults that a command line may have, of which there are none where it is taken
+-- the kinds of faults that a command line may have with what its words spell, of which there are none where it is taken
 unfoldable pub line_faults : List (List ℕ) → Kinds
 line_faults words = or_else (request_faults words) (faults_by (requested_for words))
 

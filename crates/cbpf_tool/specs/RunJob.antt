@@ -15,11 +15,13 @@ use Rattle.cbpf_tool.specs.declared.request.Request.TheVariants.{Job as AJob, Wh
 use Rattle.cbpf_tool.specs.declared.why_failure.WhyFailure.{WhyFailure}
 use Rattle.cbpf_tool.specs.declared.why_failure.WhyFailure.TheVariants as why_failure
 
+-- a job was done, with the names that it has
 abbrev pub JobDone : Hosted → Hosted → Job → Result (Unit {0}) Failure → Type 0
 JobDone old new (Asm form file) r = AsmJob old new form (option_map (λ n. string_bytes n) file) r
 JobDone old new (Dbg input output) r =
     DbgJob old new (option_map (λ n. string_bytes n) input) (option_map (λ n. string_bytes n) output) r
 
+-- the exit status after a job
 abbrev pub status : Result (Unit {0}) Failure → ℕ
 status (Ok x) = 0
 status (Err e) = 1
@@ -29,6 +31,7 @@ abbrev pub as_request : Result (Unit {0}) Failure → Result (Option Remarks) Wh
 as_request (Ok x) = Ok None
 as_request (Err e) = Err (why_failure.Job e)
 
+-- a request was done: one of the two jobs, or `why`
 abbrev pub RequestDone : Hosted → Hosted → Request → Result (Option Remarks) WhyFailure → Type 0
 RequestDone old new (AJob job) r = (done : Result (Unit {0}) Failure) × JobDone old new job done × (r ≡ as_request done)
 RequestDone old new (Why job) r = WhyDone old new job r
@@ -39,5 +42,6 @@ is_done (Ok None) = true
 is_done (Ok (Some remarks)) = not (lacks_packets remarks)
 is_done (Err e) = false
 
+-- the exit status after a request, which is also 1 where the capture lacks a packet
 abbrev pub request_status : Result (Option Remarks) WhyFailure → ℕ
 request_status r = if is_done r then 0 else 1

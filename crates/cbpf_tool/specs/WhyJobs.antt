@@ -47,6 +47,7 @@ IsReportFailure name why_fault.Read e = IsReadFailure name e
 IsReportFailure name why_fault.Write e = e ≡ failed Write
 IsReportFailure name why_fault.Memory e = e ≡ failed Memory
 
+-- remarks are there where the capture was read to its end
 abbrev pub SaysOf : Report → List PacketRange → Option (List ℕ) → Option CaptureEnd → Option Remarks → Type 0
 SaysOf report ranges name None None = Unit {0}
 SaysOf report ranges name (Some end) (Some remarks) = AreRemarks report ranges name end remarks
@@ -133,7 +134,7 @@ pub data ReportsOn (old new : Hosted) (q : Query) (name : Option (List ℕ)) (by
       → IsHeaderFailure name fault e → r ≡ Err e → ReportsOn old new q name bytes r
   a_capture : (c : Savefile) → IsSavefile bytes c → PrintsReport old new q name c r → ReportsOn old new q name bytes r
 
--- the name of the capture's file, which is not the standard input
+-- the name of the capture's file; there is none for `-`, which is the standard input
 abbrev pub file_name : Option (List ℕ) → Option (List ℕ)
 file_name name = option_and_then (λ n. if bytes_eq n (codes "-") then None else Some n) name
 
