@@ -15,9 +15,9 @@ use Rattle.cbpf_code.specs.declared.checker.CheckFault.TheVariants.{ZeroDivisor,
 use Rattle.cbpf_code.specs.declared.checker.CheckFault.TheVariants.{UnknownExtension, NoReturn, UnwrittenSlot}
 use Rattle.cbpf_code.specs.Opcode.{op_of}
 use Rattle.cbpf_code.specs.ControlFlow.{InsnAt, IsTarget}
-use Rattle.cbpf_code.specs.Faults.{IsReturn, InsnHasFault, HasFault, FirstFault, rank, index_of, uses_slot}
+use Rattle.cbpf_code.specs.Faults.{IsReturn, HasFault, FirstFault, rank, index_of, uses_slot}
 use Rattle.cbpf_code.specs.Faults.{divides_by_k, shifts_by_k, loads_absolute}
-use Rattle.cbpf_code.specs.CheckSteps.{PassesBefore, IsWellFormed, IsAllowed, AllowedAt}
+use Rattle.cbpf_code.specs.CheckSteps.{PassesBefore, IsWellFormed, InsnHasFault, IsAllowed, AllowedAt}
 
 pub insn_at-same : (list : List Insn) (i : ℕ) (Has : Op → Insn → Type 0) (insn : Insn) (op : Op) → InsnAt list i Has
     → slice_get list i ≡ Some insn → op_of insn.code ≡ Some op → Has op insn

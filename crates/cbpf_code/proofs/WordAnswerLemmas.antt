@@ -4,7 +4,7 @@ use Rattle.std.proofs.Common.{◌≡◌, ◌≢◌, ℕ, ◌⊎◌, inl, inr, Li
 use Rattle.std.proofs.Common.{arith, tests}
 use Rattle.cbpf_code.specs.WordTokens.{WordToken, run, single, tokens}
 use Rattle.std.specs.Option.{option_or}
-use Rattle.cbpf_code.specs.WordText.{Due, count, next_due, range_of, token_fault, first_fault, fault_of}
+use Rattle.cbpf_code.specs.WordText.{Due, count, next_due, limit_of, token_fault, first_fault, fault_of}
 use Rattle.cbpf_code.specs.WordText.{Spells, Miscounts, Refused}
 use Rattle.cbpf_code.specs.declared.insn.Insn.{Insn}
 use Rattle.cbpf_code.specs.declared.words.WordFault.{WordFault}
@@ -42,7 +42,7 @@ pub first_fault-other : (due : Due) (n : ℕ) (ms : List WordToken) → first_fa
 first_fault-other count n [] h = cc
 first_fault-other _ n [] h = cc
 first_fault-other due n (m ∷ ms) h =
-    or-other _ _ (token_fault-other (range_of due) m) (first_fault-other (next_due due) n ms) h
+    or-other _ _ (token_fault-other (limit_of due) m) (first_fault-other (next_due due) n ms) h
 
 pub as-refused : (text : List ℕ) (e : WordFault) → Faulty text e → Refused text e
 as-refused text Memory (inl h) = absurd (first_fault-other count (length text) (tokens text) h)

@@ -8,8 +8,8 @@ use Rattle.std.proofs.lemmas.Fmt.{decimal_is_IsNumeral, decimal_nonempty}
 use Rattle.std.proofs.lemmas.List.Elements.{All-head, All-tail}
 use Rattle.std.proofs.lemmas.Str.{digit_value_digit}
 use Rattle.std.proofs.lemmas.Str.Parse.{digit_from_value}
-use Rattle.cbpf_code.specs.WordTokens.{run, is_digit, begins_with_digit, decimal_value, tokens_from}
-use Rattle.cbpf_code.specs.WordText.{Due, count, count_comma, code, jt, jf, k, comma, next_due, range_of}
+use Rattle.cbpf_code.specs.WordTokens.{run, is_digit, begins_with_digit, decimal_value, tokens_placed}
+use Rattle.cbpf_code.specs.WordText.{Due, count, count_comma, code, jt, jf, k, comma, next_due, limit_of}
 use Rattle.cbpf_code.specs.WordText.{first_fault, numbers, Spells}
 use Rattle.cbpf_code.specs.WordForm.{InRange, word_line, word_text}
 use Rattle.cbpf_code.specs.WordSteps.{fields_of}
@@ -42,7 +42,7 @@ some_digits [] l e = omega (arith, l)
 some_digits (c ∷ cs) l e = cc
 
 tokens-decimal : (at n : ℕ) (rest : List ℕ) → n < 2 ^ 64 → begins_with_digit rest ≡ false
-    → tokens_from at (decimal n ++ rest) ≡ run at (decimal n) ∷ tokens_from (at + length (decimal n)) rest
+    → tokens_placed at (decimal n ++ rest) ≡ run at (decimal n) ∷ tokens_placed (at + length (decimal n)) rest
 tokens-decimal at n rest h stop =
     grind (arith, law-run, some_digits, decimal_nonempty, all_digits, decimal_is_IsNumeral)
 
@@ -51,7 +51,7 @@ tokens-decimal at n rest h stop =
 -- wherever the text stands, nothing is wrong with it where something is due, and its numbers are ns
 abbrev Reads : List ℕ → Due → List ℕ → Type 0
 Reads text due ns =
-    (at : ℕ) → ((n : ℕ) → first_fault due n (tokens_from at text) ≡ None) × (numbers (tokens_from at text) ≡ ns)
+    (at : ℕ) → ((n : ℕ) → first_fault due n (tokens_placed at text) ≡ None) × (numbers (tokens_placed at text) ≡ ns)
 
 reads-newline : Reads (codes "\n") code []
 reads-newline at = rw (law-blank at 10 [] refl, law-empty (at + 1)) ((λ n. refl), refl)
@@ -59,12 +59,12 @@ reads-newline at = rw (law-blank at 10 [] refl, law-empty (at + 1)) ((λ n. refl
 reads-space : (text : List ℕ) (due : Due) (ns : List ℕ) → Reads text due ns → Reads (32 ∷ text) due ns
 reads-space text due ns r at = rw (law-blank at 32 text refl) (r (at + 1))
 
-reads-comma : (text : List ℕ) (due : Due) (ns : List ℕ) → range_of due ≡ None → Reads text (next_due due) ns
+reads-comma : (text : List ℕ) (due : Due) (ns : List ℕ) → limit_of due ≡ None → Reads text (next_due due) ns
     → Reads (44 ∷ text) due ns
 reads-comma text due ns none r at = grind (arith, law-single)
 
 reads-number : (text : List ℕ) (number range : ℕ) (due : Due) (ns : List ℕ) → begins_with_digit text ≡ false
-    → range_of due ≡ Some range → range ≤ 2 ^ 32 → number < range → Reads text (next_due due) ns
+    → limit_of due ≡ Some range → range ≤ 2 ^ 32 → number < range → Reads text (next_due due) ns
     → Reads (decimal number ++ text) due (number ∷ ns)
 reads-number text number range due ns stop is small l r at = grind (arith, number-decimal, tokens-decimal)
 

@@ -1,7 +1,7 @@
 -- Steps of the reader, one after another.
 use Rattle.std.proofs.Common.{◌≡◌, ◌≢◌, ℕ, inl, inr, List, [], ◌∷◌, ◌++◌, length, drop, append_assoc, append-nil}
 use Rattle.std.proofs.Common.{◌≤◌, length-append, refl, sym, ◌∙◌, ap, subst, arith, Some, None}
-use Rattle.cbpf_code.specs.WordTokens.{tokens, tokens_after}
+use Rattle.cbpf_code.specs.WordTokens.{tokens, tokens_from}
 use Rattle.cbpf_code.specs.WordText.{Due, count, count_comma, code, comma, end_fault, first_fault, numbers}
 use Rattle.cbpf_code.specs.WordText.{in_fours, list_of, Spells, Refused}
 use Rattle.cbpf_code.proofs.WordAnswerLemmas.{as-refused}
@@ -17,13 +17,13 @@ passes-then {text} {a} {b} {c} {at} {mid} {end} {ns} {ms} x y = record {
   after = omega (arith, x.after, y.after);
   good = x.good ∙ y.good;
   spelled = x.spelled ∙ ap (λ (t : List ℕ). ns ++ t) y.spelled
-      ∙ sym (append_assoc ns ms (numbers (tokens_after text end)));
+      ∙ sym (append_assoc ns ms (numbers (tokens_from text end)));
 }
 
 -- what is wrong after good tokens
 stops-then : {text : List ℕ} {a b : Due} {at mid : ℕ} {ns : List ℕ} {e at_end : WordFault}
     → PassesTokens text a at ns b mid
-    → IsFaultAt text b mid e at_end → (tokens_after text mid ≡ [] → end_fault b (length text) ≡ Some at_end)
+    → IsFaultAt text b mid e at_end → (tokens_from text mid ≡ [] → end_fault b (length text) ≡ Some at_end)
     → fault_from text a at ≡ Some e
 stops-then x (inl h) last = x.good ∙ h
 stops-then {text} {a} {b} x (inr h) last =
@@ -52,16 +52,16 @@ read-next text n list i at mid end r x y = grind (arith, append-nil, passes-then
 pub five : (text : List ℕ) (n : ℕ) (list : List Insn) (i : Insn) (at end : ℕ) → IsRead text n list at
     → PassesTokens text code at (i.code ∷ i.jt ∷ i.jf ∷ i.k ∷ []) comma end → 5 ≤ length (numbers (tokens text))
 five text n list i at end r x =
-    omega (arith, ap length r.spelled, ap length x.spelled, length-append (n ∷ fields_of list) (numbers (tokens_after text at)))
+    omega (arith, ap length r.spelled, ap length x.spelled, length-append (n ∷ fields_of list) (numbers (tokens_from text at)))
 
 -- the end, where it may stand
 read-end : (text : List ℕ) (n : ℕ) (list : List Insn) (due : Due) (end : ℕ)
-    → PassesTokens text count 0 (n ∷ fields_of list) due end → tokens_after text end ≡ []
+    → PassesTokens text count 0 (n ∷ fields_of list) due end → tokens_from text end ≡ []
     → end_fault due (length text) ≡ None → IsReadWhole text n list
 read-end text n list due end r e fine = grind (arith, append-nil)
 
 pub read-last : (text : List ℕ) (n : ℕ) (list : List Insn) (i : Insn) (at end : ℕ) → IsRead text n list at
-    → PassesTokens text code at (i.code ∷ i.jt ∷ i.jf ∷ i.k ∷ []) comma end → tokens_after text end ≡ []
+    → PassesTokens text code at (i.code ∷ i.jt ∷ i.jf ∷ i.k ∷ []) comma end → tokens_from text end ≡ []
     → IsReadWhole text n (list ++ i ∷ [])
 read-last text n list i at end r x e =
     read-end text n (list ++ i ∷ []) comma end (read-insn text n list i at end r x) e refl
@@ -90,7 +90,7 @@ pub stops-count : (text : List ℕ) (n a : ℕ) (e : WordFault) → PassesTokens
 stops-count text n a e x s = as-refused text e (inl (stops-then x s (λ none. refl)))
 
 pub stops-fields : (text : List ℕ) (n : ℕ) (list : List Insn) (at : ℕ) (e : WordFault) → IsRead text n list at
-    → (tokens_after text at ≡ [] → ⊥) → IsFaultAt text code at e (NumberExpected (length text)) → Refused text e
+    → (tokens_from text at ≡ [] → ⊥) → IsFaultAt text code at e (NumberExpected (length text)) → Refused text e
 stops-fields text n list at e r some s = as-refused text e (inl (stops-then r s (λ none. absurd (some none))))
 
 pub ruleset reading = (stops-first, stops-count, stops-fields, whole-spells, whole-miscounts)

@@ -6,36 +6,36 @@ use Rattle.std.proofs.lemmas.Bool.{cases_Bool, cases_lt, eq-eqb, eqb-true}
 use Rattle.std.proofs.Math.Seq.{take-append_seam, drop-append_seam}
 use Rattle.std.proofs.lemmas.List.{drop_all}
 use Rattle.cbpf_code.specs.WordTokens.{WordToken, run, single, is_digit, is_blank, begins_with_digit, tokens_in}
-use Rattle.cbpf_code.specs.WordTokens.{tokens_from, tokens_after}
+use Rattle.cbpf_code.specs.WordTokens.{tokens_placed, tokens_from}
 
 blank_no_digit : (b : ℕ) → is_blank b ≡ true → is_digit b ≡ false
 blank_no_digit b e = grind (arith, tests)
 
 -- the four ways in which a text begins
 
-pub law-empty : (at : ℕ) → tokens_from at [] ≡ []
+pub law-empty : (at : ℕ) → tokens_placed at [] ≡ []
 unfolding tokens_in
 law-empty at = refl
 
-pub law-blank : (at b : ℕ) (rest : List ℕ) → is_blank b ≡ true → tokens_from at (b ∷ rest) ≡ tokens_from (at + 1) rest
+pub law-blank : (at b : ℕ) (rest : List ℕ) → is_blank b ≡ true → tokens_placed at (b ∷ rest) ≡ tokens_placed (at + 1) rest
 unfolding tokens_in
 law-blank at b rest e = rw (add-one, blank_no_digit b e, e) refl
 
 pub law-single : (at b : ℕ) (rest : List ℕ) → is_blank b ≡ false → is_digit b ≡ false
-    → tokens_from at (b ∷ rest) ≡ single at b ∷ tokens_from (at + 1) rest
+    → tokens_placed at (b ∷ rest) ≡ single at b ∷ tokens_placed (at + 1) rest
 unfolding tokens_in
 law-single at b rest n d = rw (add-one, d, n) refl
 
 -- what follows a run
 after_run : (at : ℕ) (bs : List ℕ)
-    → tokens_in true at bs ≡ tokens_from (at + prefix_len is_digit bs) (drop (prefix_len is_digit bs) bs)
+    → tokens_in true at bs ≡ tokens_placed (at + prefix_len is_digit bs) (drop (prefix_len is_digit bs) bs)
 unfolding tokens_in
 after_run at [] = refl
 after_run at (b ∷ bs) = elim (cases_Bool (is_digit b)) [
   | inl e ↦
       let one : 1 + prefix_len is_digit bs ≡ suc (prefix_len is_digit bs) = omega arith in
       let seam : suc at + prefix_len is_digit bs ≡ at + suc (prefix_len is_digit bs) = omega arith in
-      rw (e, one) (after_run (suc at) bs ∙ ap (λ p. tokens_from p (drop (prefix_len is_digit bs) bs)) seam)
+      rw (e, one) (after_run (suc at) bs ∙ ap (λ p. tokens_placed p (drop (prefix_len is_digit bs) bs)) seam)
   | inr e ↦ let z : at + 0 ≡ at = omega arith in rw (e, z, e) refl
 ]
 
@@ -47,7 +47,7 @@ run-length (d ∷ ds) rest all stop = let more = run-length ds rest all.1 stop i
 
 pub law-run : (at : ℕ) (digits rest : List ℕ) → digits ≢ [] → AllByRecursion (λ b. is_digit b ≡ true) digits
     → begins_with_digit rest ≡ false
-    → tokens_from at (digits ++ rest) ≡ run at digits ∷ tokens_from (at + length digits) rest
+    → tokens_placed at (digits ++ rest) ≡ run at digits ∷ tokens_placed (at + length digits) rest
 unfolding tokens_in
 law-run at [] rest some all stop = absurd (some refl)
 law-run at (d ∷ ds) rest some all stop =
@@ -58,35 +58,35 @@ law-run at (d ∷ ds) rest some all stop =
 -- the same at a place of a text
 
 pub step-blank : (text : List ℕ) (i : ℕ) → i < length text → is_blank (get_or text i 0) ≡ true
-    → tokens_after text i ≡ tokens_after text (i + 1)
+    → tokens_from text i ≡ tokens_from text (i + 1)
 step-blank text i l e = grind (arith, drop-cons, add-one, law-blank)
 
 pub step-single : (text : List ℕ) (i : ℕ) → i < length text → is_digit (get_or text i 0) ≡ false
     → is_blank (get_or text i 0) ≡ false
-    → tokens_after text i ≡ single i (get_or text i 0) ∷ tokens_after text (i + 1)
+    → tokens_from text i ≡ single i (get_or text i 0) ∷ tokens_from text (i + 1)
 step-single text i l d e = grind (arith, drop-cons, add-one, law-single)
 
-pub step-end : (text : List ℕ) (i : ℕ) → length text ≤ i → tokens_after text i ≡ []
+pub step-end : (text : List ℕ) (i : ℕ) → length text ≤ i → tokens_from text i ≡ []
 step-end text i l = rw (drop_all i text l) (law-empty i)
 
 pub step-run : (text : List ℕ) (i : ℕ) → i < length text → is_digit (get_or text i 0) ≡ true
-    → tokens_after text i
-    ≡ run i (take_while is_digit (drop i text)) ∷ tokens_after text (i + prefix_len is_digit (drop i text))
+    → tokens_from text i
+    ≡ run i (take_while is_digit (drop i text)) ∷ tokens_from text (i + prefix_len is_digit (drop i text))
 unfolding tokens_in
 step-run text i l d =
     let bs = drop (suc i) text in
     let n = prefix_len is_digit bs in
     let one : 1 + n ≡ suc n = omega arith in
     let seam : suc i + n ≡ i + suc n = omega arith in
-    let rest : tokens_in true (suc i) bs ≡ tokens_after text (i + suc n) =
-    after_run (suc i) bs ∙ ap (tokens_from (suc i + n)) (drop-drop n (suc i) text) ∙ ap (tokens_after text) seam in
+    let rest : tokens_in true (suc i) bs ≡ tokens_from text (i + suc n) =
+    after_run (suc i) bs ∙ ap (tokens_placed (suc i + n)) (drop-drop n (suc i) text) ∙ ap (tokens_from text) seam in
     rw (drop-cons text i 0 l, d, one)
     (ap (λ (ms : List WordToken). run i (get_or text i 0 ∷ take_while is_digit bs) ∷ ms) rest)
 
 pub ruleset token_steps = (step-blank, step-single, step-end)
 
 -- a byte that is no blank begins a token
-tokens-some : (at b : ℕ) (bs : List ℕ) → is_blank b ≡ false → tokens_from at (b ∷ bs) ≡ [] → ⊥
+tokens-some : (at b : ℕ) (bs : List ℕ) → is_blank b ≡ false → tokens_placed at (b ∷ bs) ≡ [] → ⊥
 unfolding tokens_in
 tokens-some at b bs n e = elim (cases_Bool (is_digit b)) [
   | inl d ↦ let f = rw d at e in cc
@@ -94,13 +94,13 @@ tokens-some at b bs n e = elim (cases_Bool (is_digit b)) [
 ]
 
 pub some-token : (text : List ℕ) (i : ℕ) → i < length text → is_blank (get_or text i 0) ≡ false
-    → tokens_after text i ≡ [] → ⊥
+    → tokens_from text i ≡ [] → ⊥
 some-token text i l b e = grind (arith, tokens-some, drop-cons)
 
 -- `place` is the first place from `at` on that is no blank
-pub end-or-not : (text : List ℕ) (at place : ℕ) → place ≤ length text → tokens_after text place ≡ tokens_after text at
+pub end-or-not : (text : List ℕ) (at place : ℕ) → place ≤ length text → tokens_from text place ≡ tokens_from text at
     → (place < length text → is_blank (get_or text place 0) ≡ false)
-    → IsTrue (nat_eq place (length text)) ↔ (tokens_after text at ≡ [])
+    → IsTrue (nat_eq place (length text)) ↔ (tokens_from text at ≡ [])
 end-or-not text at place w same stops = grind (arith, eqb-true, step-end, cases_lt, some-token, eq-eqb)
 
 pub ruleset marks = (law-empty, law-blank, law-single, law-run)

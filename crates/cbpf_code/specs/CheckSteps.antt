@@ -4,12 +4,23 @@ use Rattle.std.specs.Prelude.{ℕ, ◌<◌, ◌≤◌, List, length}
 use Rattle.cbpf_code.specs.declared.insn.Insn.{Insn}
 use Rattle.cbpf_code.specs.declared.opcode.Op.{Op}
 use Rattle.cbpf_code.specs.declared.checker.CheckFault.{CheckFault}
-use Rattle.cbpf_code.specs.declared.checker.CheckFault.TheVariants.{UnknownCode}
+use Rattle.cbpf_code.specs.declared.checker.CheckFault.TheVariants.{UnknownCode, NoSlot, ZeroDivisor, WideShift}
+use Rattle.cbpf_code.specs.declared.checker.CheckFault.TheVariants.{JumpOutside, UnknownExtension}
 use Rattle.cbpf_code.specs.declared.checker.TheConstants.{MAX_INSTRUCTIONS}
 use Rattle.cbpf_code.specs.ControlFlow.{InsnAt}
-use Rattle.cbpf_code.specs.Faults.{InsnHasFault, HasFault, IsEarlier, rank}
+use Rattle.cbpf_code.specs.Faults.{HasFault, IsEarlier, rank, NamesNoSlot, DividesByZero, ShiftsTooFar, JumpsOutside}
+use Rattle.cbpf_code.specs.Faults.{LoadsNoExtension}
 
--- an instruction of a known code, at i of n, has no fault of its own
+-- an instruction of a known code, at i of n, has this fault of its own
+abbrev pub InsnHasFault : Op → Insn → ℕ → ℕ → CheckFault → Type 0
+InsnHasFault op insn i n (NoSlot at) = NamesNoSlot op insn
+InsnHasFault op insn i n (ZeroDivisor at) = DividesByZero op insn
+InsnHasFault op insn i n (WideShift at) = ShiftsTooFar op insn
+InsnHasFault op insn i n (JumpOutside at) = JumpsOutside op insn i n
+InsnHasFault op insn i n (UnknownExtension at) = LoadsNoExtension op insn
+InsnHasFault op insn i n _ = ⊥
+
+-- it has none
 abbrev pub IsAllowed : Op → Insn → ℕ → ℕ → Type 0
 IsAllowed op insn i n = (e : CheckFault) → InsnHasFault op insn i n e → ⊥
 

@@ -49,7 +49,8 @@ stores_slot _ = false
 abbrev pub StoresSlot : List Insn → ℕ → ℕ → Type 0
 StoresSlot list i s = InsnAt list i (λ op insn. IsTrue (stores_slot op) × (insn.k ≡ s))
 
--- some path from the first instruction to i has no store into slot s before i
+-- some path from the first instruction to i has no store into slot s before i; each edge leads forward, as `h < i` says
+-- once more
 pub data MayBeUnwritten (list : List Insn) (s : ℕ) : ℕ → Type 0 where
   at_start : MayBeUnwritten list s 0
   onward : {h i : ℕ} → h < i → MayBeUnwritten list s h → (StoresSlot list h s → ⊥) → IsSuccessor list h i

@@ -44,19 +44,23 @@ loads_absolute _ = false
 abbrev pub IsReturn : Insn → Type 0
 IsReturn insn = (op_of insn.code ≡ Some RetK) ⊎ (op_of insn.code ≡ Some RetA)
 
--- what is wrong with one instruction, at index i of n: for each fault of its own a definition
+-- C4: the slot isn't one of scratch memory
 abbrev pub NamesNoSlot : Op → Insn → Type 0
 NamesNoSlot op insn = IsTrue (uses_slot op) × (SLOTS ≤ insn.k)
 
+-- C5: the divisor is the constant 0
 abbrev pub DividesByZero : Op → Insn → Type 0
 DividesByZero op insn = IsTrue (divides_by_k op) × (insn.k ≡ 0)
 
+-- C6: the shift is by a constant of 32 or more
 abbrev pub ShiftsTooFar : Op → Insn → Type 0
 ShiftsTooFar op insn = IsTrue (shifts_by_k op) × (32 ≤ insn.k)
 
+-- C7: a target of the instruction at index i isn't one of n instructions
 abbrev pub JumpsOutside : Op → Insn → ℕ → ℕ → Type 0
 JumpsOutside op insn i n = (t : ℕ) × IsTarget op insn i t × (n ≤ t)
 
+-- C8: the place is one of extensions, and none has it
 abbrev pub LoadsNoExtension : Op → Insn → Type 0
 LoadsNoExtension op insn = IsTrue (loads_absolute op) × (FIRST_EXTENSION ≤ insn.k) × (ext_at insn.k ≡ None)
 
@@ -78,23 +82,18 @@ index_of (UnknownExtension i) = i
 index_of (UnwrittenSlot i) = i
 index_of _ = 0
 
--- an instruction of a known code, at index i of n, has this fault of its own
-abbrev pub InsnHasFault : Op → Insn → ℕ → ℕ → CheckFault → Type 0
-InsnHasFault op insn i n (NoSlot at) = NamesNoSlot op insn
-InsnHasFault op insn i n (ZeroDivisor at) = DividesByZero op insn
-InsnHasFault op insn i n (WideShift at) = ShiftsTooFar op insn
-InsnHasFault op insn i n (JumpOutside at) = JumpsOutside op insn i n
-InsnHasFault op insn i n (UnknownExtension at) = LoadsNoExtension op insn
-InsnHasFault op insn i n _ = ⊥
-
--- a list has a fault: one that is named here, or else an instruction's own
+-- a list has a fault, from C1 to C10
 abbrev pub HasFault : List Insn → CheckFault → Type 0
 HasFault list NoInstruction = length list ≡ 0
 HasFault list TooMany = MAX_INSTRUCTIONS < length list
 HasFault list (UnknownCode i) = (insn : Insn) × (slice_get list i ≡ Some insn) × (op_of insn.code ≡ None)
+HasFault list (NoSlot i) = InsnAt list i (λ op insn. NamesNoSlot op insn)
+HasFault list (ZeroDivisor i) = InsnAt list i (λ op insn. DividesByZero op insn)
+HasFault list (WideShift i) = InsnAt list i (λ op insn. ShiftsTooFar op insn)
+HasFault list (JumpOutside i) = InsnAt list i (λ op insn. JumpsOutside op insn i (length list))
+HasFault list (UnknownExtension i) = InsnAt list i (λ op insn. LoadsNoExtension op insn)
 HasFault list NoReturn = (insn : Insn) × (slice_get list (length list - 1) ≡ Some insn) × (IsReturn insn → ⊥)
 HasFault list (UnwrittenSlot i) = InsnAt list i (λ op insn. IsTrue (loads_slot op) × MayBeUnwritten list insn.k i)
-HasFault list e = InsnAt list (index_of e) (λ op insn. InsnHasFault op insn (index_of e) (length list) e)
 
 -- the first fault is reported before the second
 abbrev pub IsEarlier : CheckFault → CheckFault → Type 0

@@ -1,6 +1,6 @@
 -- What the scanner finds: the next token of a text. No public clause names it.
 use Rattle.std.specs.Prelude.{◌≡◌, ℕ, ◌<◌, ◌≤◌, ◌^◌, min, List, ◌∷◌, length, slice_range}
-use Rattle.cbpf_code.specs.WordTokens.{WordToken, run, single, decimal_value, tokens_after}
+use Rattle.cbpf_code.specs.WordTokens.{WordToken, run, single, decimal_value, tokens_from}
 use Rattle.cbpf_code.specs.declared.scan.FoundToken.{FoundToken}
 use Rattle.cbpf_code.specs.declared.scan.TokenKind.{TokenKind}
 use Rattle.cbpf_code.specs.declared.scan.TokenKind.TheVariants.{Digits, Byte}
@@ -21,5 +21,5 @@ HasValue text f (Byte b) = Unit {0}
 pub record IsFound (text : List ℕ) (at : ℕ) (f : FoundToken) : Type 0 where
   pub within : f.end ≤ length text
   pub after : at < f.end
-  pub first : tokens_after text at ≡ token_found text f ∷ tokens_after text f.end
+  pub first : tokens_from text at ≡ token_found text f ∷ tokens_from text f.end
   pub value : HasValue text f f.kind

@@ -1,24 +1,24 @@
 -- What the reader's steps take from the tokens of a text. No public clause names it.
 use Rattle.std.specs.Prelude.{◌≡◌, ℕ, ◌<◌, ◌≤◌, ◌⊎◌, List, [], ◌∷◌, ◌++◌, length, Option, Some, None}
-use Rattle.cbpf_code.specs.WordTokens.{tokens, tokens_after}
+use Rattle.cbpf_code.specs.WordTokens.{tokens, tokens_from}
 use Rattle.cbpf_code.specs.WordText.{Due, count, code, first_fault, fault_of, numbers}
 use Rattle.cbpf_code.specs.declared.insn.Insn.{Insn}
 use Rattle.cbpf_code.specs.declared.words.WordFault.{WordFault}
 
 -- the first thing wrong from a place on
 abbrev pub fault_from : List ℕ → Due → ℕ → Option WordFault
-fault_from text due at = first_fault due (length text) (tokens_after text at)
+fault_from text due at = first_fault due (length text) (tokens_from text at)
 
 -- from a place on, where something is due, good tokens with these numbers come up to an end, where something else is
 pub record PassesTokens (text : List ℕ) (due : Due) (at : ℕ) (ns : List ℕ) (next : Due) (end : ℕ) : Type 0 where
   pub within : end ≤ length text
   pub after : at < end
   pub good : fault_from text due at ≡ fault_from text next end
-  pub spelled : numbers (tokens_after text at) ≡ ns ++ numbers (tokens_after text end)
+  pub spelled : numbers (tokens_from text at) ≡ ns ++ numbers (tokens_from text end)
 
 -- `e` is the first thing wrong from a place on; where no token is left there, it may also be `at_end`
 abbrev pub IsFaultAt : List ℕ → Due → ℕ → WordFault → WordFault → Type 0
-IsFaultAt text due at e at_end = (fault_from text due at ≡ Some e) ⊎ ((tokens_after text at ≡ []) × (e ≡ at_end))
+IsFaultAt text due at e at_end = (fault_from text due at ≡ Some e) ⊎ ((tokens_from text at ≡ []) × (e ≡ at_end))
 
 -- the numbers of the instructions
 abbrev pub fields_of : List Insn → List ℕ

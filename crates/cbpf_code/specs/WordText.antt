@@ -28,20 +28,20 @@ next_due k = comma
 next_due comma = code
 
 -- the least number that is too large, where a number is due
-abbrev pub range_of : Due → Option ℕ
-range_of count = Some (2 ^ 32)
-range_of code = Some (2 ^ 16)
-range_of jt = Some (2 ^ 8)
-range_of jf = Some (2 ^ 8)
-range_of k = Some (2 ^ 32)
-range_of _ = None
+abbrev pub limit_of : Due → Option ℕ
+limit_of count = Some (2 ^ 32)
+limit_of code = Some (2 ^ 16)
+limit_of jt = Some (2 ^ 8)
+limit_of jf = Some (2 ^ 8)
+limit_of k = Some (2 ^ 32)
+limit_of _ = None
 
 -- what is wrong with a token, where a comma or a number below a limit is due
 abbrev pub token_fault : Option ℕ → WordToken → Option WordFault
 token_fault None (run p ds) = Some (CommaExpected p)
 token_fault None (single p b) = if b == 44 then None else Some (UnexpectedByte p)
-token_fault (Some range) (run p ds) = if nat_lt (decimal_value ds) range then None else Some (OutOfRange p)
-token_fault (Some range) (single p b) = if b == 44 then Some (NumberExpected p) else Some (UnexpectedByte p)
+token_fault (Some limit) (run p ds) = if nat_lt (decimal_value ds) limit then None else Some (OutOfRange p)
+token_fault (Some limit) (single p b) = if b == 44 then Some (NumberExpected p) else Some (UnexpectedByte p)
 
 -- what is wrong with the end of the text, at place n: it may stand after an instruction and after a comma
 abbrev pub end_fault : Due → ℕ → Option WordFault
@@ -53,7 +53,7 @@ end_fault _ n = Some (NumberExpected n)
 -- the first thing wrong with the tokens up to the end at place n
 abbrev pub first_fault : Due → ℕ → List WordToken → Option WordFault
 first_fault due n [] = end_fault due n
-first_fault due n (m ∷ ms) = option_or (token_fault (range_of due) m) (first_fault (next_due due) n ms)
+first_fault due n (t ∷ ts) = option_or (token_fault (limit_of due) t) (first_fault (next_due due) n ts)
 
 -- the first thing wrong with a whole text, but for a count that differs
 abbrev pub fault_of : List ℕ → Option WordFault
@@ -62,8 +62,8 @@ fault_of text = first_fault count (length text) (tokens text)
 -- the values of the runs of digits, in order
 abbrev pub numbers : List WordToken → List ℕ
 numbers [] = []
-numbers (run p ds ∷ ms) = decimal_value ds ∷ numbers ms
-numbers (single p b ∷ ms) = numbers ms
+numbers (run p ds ∷ ts) = decimal_value ds ∷ numbers ts
+numbers (single p b ∷ ts) = numbers ts
 
 -- numbers in fours
 abbrev pub in_fours : List ℕ → List Insn

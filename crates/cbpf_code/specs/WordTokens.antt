@@ -30,16 +30,16 @@ tokens_in in_run at (b ∷ bs) =
     else (if is_blank b then tokens_in false (suc at) bs else (single at b ∷ tokens_in false (suc at) bs))
 
 -- the tokens of a text whose first byte has the place `at`
-abbrev pub tokens_from : ℕ → List ℕ → List WordToken
-tokens_from at text = tokens_in false at text
+abbrev pub tokens_placed : ℕ → List ℕ → List WordToken
+tokens_placed at text = tokens_in false at text
 
 -- the tokens of a whole text
 abbrev pub tokens : List ℕ → List WordToken
-tokens text = tokens_from 0 text
+tokens text = tokens_placed 0 text
 
 -- the tokens of a text from a place on
-abbrev pub tokens_after : List ℕ → ℕ → List WordToken
-tokens_after text at = tokens_from at (drop at text)
+abbrev pub tokens_from : List ℕ → ℕ → List WordToken
+tokens_from text at = tokens_placed at (drop at text)
 
 -- the number that digits spell
 abbrev pub decimal_value : List ℕ → ℕ

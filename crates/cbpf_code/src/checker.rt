@@ -3,12 +3,12 @@
 ghost use Rattle.std.specs.Prelude.{◌≡◌, ◌<◌, ◌≤◌, ◌+◌, ◌-◌, ◌↔◌, ◌⊎◌, ℕ, Some, length, slice_get, slice_index};
 ghost use Rattle.std.specs.Prelude.{MatchOption, IfNone, IsOk, IfOk, IfErr};
 ghost use Rattle.std.specs.List.{All};
-ghost use Rattle.cbpf_code.specs.Faults.{FirstFault, InsnHasFault};
+ghost use Rattle.cbpf_code.specs.Faults.{FirstFault};
 ghost use Rattle.cbpf_code.specs.Faults as spec;
 ghost use Rattle.cbpf_code.specs.Sound.{IsSound};
 ghost use Rattle.cbpf_code.specs.Text.{with_number};
 ghost use Rattle.cbpf_code.specs.WordForm.{InRange};
-ghost use Rattle.cbpf_code.specs.CheckSteps.{IsAllowed};
+ghost use Rattle.cbpf_code.specs.CheckSteps.{IsAllowed, InsnHasFault};
 ghost use Rattle.cbpf_code.specs.Messages.{check_message, message_text};
 ghost use Rattle.cbpf_code.specs.declared.checker.CheckFault.{CheckFault};
 

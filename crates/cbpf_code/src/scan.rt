@@ -3,8 +3,8 @@
 ghost use Rattle.std.specs.Prelude.{◌≡◌, ◌≢◌, ◌+◌, ◌<◌, ◌≤◌, ◌^◌, ℕ, min, take, length, slice_index, true, false};
 ghost use Rattle.std.specs.Prelude.{List, [], ◌∷◌, ◌++◌, MatchOption};
 ghost use Rattle.std.specs.List.{AllByRecursion, prefix_len};
-ghost use Rattle.cbpf_code.specs.WordTokens.{single, run, is_digit, is_blank, begins_with_digit, decimal_value, tokens_from};
-ghost use Rattle.cbpf_code.specs.WordTokens.{tokens_after};
+ghost use Rattle.cbpf_code.specs.WordTokens.{single, run, is_digit, is_blank, begins_with_digit, decimal_value, tokens_placed};
+ghost use Rattle.cbpf_code.specs.WordTokens.{tokens_from};
 ghost use Rattle.cbpf_code.specs.NextToken.{IsFound};
 
 /// No field of word text reaches this number, so greater ones stand for it.
@@ -64,7 +64,7 @@ pub struct FoundToken {
 pub(crate) fn skip_blanks(text: &[u8], at: usize) -> usize
     requires { at ≤ length text.now }
     ensures range { (at ≤ result) × (result ≤ length text.now) }
-    ensures same { tokens_after text.now result ≡ tokens_after text.now at }
+    ensures same { tokens_from text.now result ≡ tokens_from text.now at }
     ensures stops { result < length text.now → is_blank (slice_index text.now result) ≡ false }
 {
     let mut i = at;
@@ -78,7 +78,7 @@ pub(crate) fn skip_blanks(text: &[u8], at: usize) -> usize
 #[tactic(auto, using(crate::proofs::WordTokenLemmas::token_steps))]
 pub(crate) fn next_token(text: &[u8], at: usize) -> Option<FoundToken>
     requires { at ≤ length text.now }
-    ensures { MatchOption result (tokens_after text.now at ≡ []) (λ f. IsFound text.now at f) }
+    ensures { MatchOption result (tokens_from text.now at ≡ []) (λ f. IsFound text.now at f) }
 {
     let place = skip_blanks(text, at);
     if place == text.len() {
@@ -105,12 +105,12 @@ pub(crate) fn next_token(text: &[u8], at: usize) -> Option<FoundToken>
 /// clauses are laws of the tokens that [`read_words`](crate::read_words) is defined by.
 #[tactic(auto, using(crate::proofs::WordTokenLemmas::marks))]
 pub fn laws_of_marks()
-    ensures empty { (at : ℕ) → tokens_from at [] ≡ [] }
+    ensures empty { (at : ℕ) → tokens_placed at [] ≡ [] }
     ensures blank { (at b : ℕ) (rest : List ℕ) → is_blank b ≡ true →
-        tokens_from at (b ∷ rest) ≡ tokens_from (at + 1) rest }
+        tokens_placed at (b ∷ rest) ≡ tokens_placed (at + 1) rest }
     ensures single { (at b : ℕ) (rest : List ℕ) → is_blank b ≡ false → is_digit b ≡ false →
-        tokens_from at (b ∷ rest) ≡ single at b ∷ tokens_from (at + 1) rest }
+        tokens_placed at (b ∷ rest) ≡ single at b ∷ tokens_placed (at + 1) rest }
     ensures run { (at : ℕ) (digits rest : List ℕ) → digits ≢ [] → AllByRecursion (λ b. is_digit b ≡ true) digits →
         begins_with_digit rest ≡ false →
-        tokens_from at (digits ++ rest) ≡ run at digits ∷ tokens_from (at + length digits) rest }
+        tokens_placed at (digits ++ rest) ≡ run at digits ∷ tokens_placed (at + length digits) rest }
 {}

@@ -4,8 +4,8 @@ ghost use Rattle.std.specs.Prelude.{◌≡◌, ◌<◌, ◌≤◌, ◌^◌, ◌�
 ghost use Rattle.std.specs.Prelude.{List, ◌≢◌, ◌⊎◌, Some};
 ghost use Rattle.cbpf_code.specs.Messages.{message_text, word_message};
 ghost use Rattle.cbpf_code.specs.Text.{with_number};
-ghost use Rattle.cbpf_code.specs.WordTokens.{tokens_after};
-ghost use Rattle.cbpf_code.specs.WordText.{Due, code, comma, next_due, range_of, Spells, Refused};
+ghost use Rattle.cbpf_code.specs.WordTokens.{tokens_from};
+ghost use Rattle.cbpf_code.specs.WordText.{Due, code, comma, next_due, limit_of, Spells, Refused};
 ghost use Rattle.cbpf_code.specs.WordSteps.{PassesTokens, IsFaultAt, IsReadWhole};
 ghost use Rattle.cbpf_code.specs.declared.insn.Insn.{Insn};
 ghost use Rattle.cbpf_code.specs.declared.words.WordFault.{WordFault};
@@ -78,7 +78,7 @@ impl Error for WordFault {}
 #[tactic(auto, using(crate::proofs::WordTokenLemmas::ends))]
 fn is_end(text: &[u8], at: usize) -> bool
     requires { at ≤ length text.now }
-    ensures { IsTrue result ↔ tokens_after text.now at ≡ [] }
+    ensures { IsTrue result ↔ tokens_from text.now at ≡ [] }
 {
     skip_blanks(text, at) == text.len()
 }
@@ -88,7 +88,7 @@ fn decimal_at(text: &[u8], at: usize, range: u64) -> Result<(u64, usize), WordFa
     requires place { at ≤ length text.now }
     requires range { range ≤ 2 ^ 32 }
     ensures below { IfOk result (λ r. (r.0 < range) × (r.1 ≤ length text.now)) }
-    ensures step { (due : Due) → range_of due ≡ Some range →
+    ensures step { (due : Due) → limit_of due ≡ Some range →
         MatchResult result (λ r. PassesTokens text.now due at (r.0 ∷ []) (next_due due) r.1)
         (λ e. IsFaultAt text.now due at e (NumberExpected (length text.now))) }
 {
@@ -106,7 +106,7 @@ fn decimal_at(text: &[u8], at: usize, range: u64) -> Result<(u64, usize), WordFa
 /// Where a comma ends.
 fn comma_at(text: &[u8], at: usize) -> Result<usize, WordFault>
     requires { at ≤ length text.now }
-    ensures { (due : Due) → range_of due ≡ None →
+    ensures { (due : Due) → limit_of due ≡ None →
         MatchResult result (λ end. PassesTokens text.now due at [] (next_due due) end)
         (λ e. IsFaultAt text.now due at e (CommaExpected (length text.now))) }
 {

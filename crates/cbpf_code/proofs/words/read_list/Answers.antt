@@ -1,6 +1,6 @@
 use Rattle.std.proofs.Common.{◌≡◌, [], ◌∷◌, ◌++◌, arith, rules, refl}
 use Rattle.std.proofs.lemmas.Grind.{common_steps}
-use Rattle.cbpf_code.specs.WordTokens.{tokens_after}
+use Rattle.cbpf_code.specs.WordTokens.{tokens_from}
 use Rattle.cbpf_code.specs.WordText.{count, count_comma, comma}
 use Rattle.cbpf_code.proofs.WordStepLemmas.{passes-then, read-next, read-last, five}
 use Rattle.cbpf_code.proofs.words.read_list.Goals as goal
@@ -23,5 +23,5 @@ pub counted-requires : goal.counted-requires
 counted-requires g c =
     let items : c.push.new.self.items ≡ c.loop-list.list.items ++ c.in_ok-insn.insn ∷ [] =
     grind (arith, common_steps) in
-    let e : tokens_after c.args.text.now c.in_ok-insn.end ≡ [] = search rules in
+    let e : tokens_from c.args.text.now c.in_ok-insn.end ≡ [] = search rules in
     rw items (read-last _ _ _ _ _ _ c.loop-list.invariant c.in_ok-insn.ensures e)
