@@ -9,7 +9,7 @@ use Rattle.cbpf_syntax.specs.Items.{Item, Items, BeginsItems}
 use Rattle.cbpf_syntax.specs.Refusals.ParseFault.{Misplaced, LargeNegative, Unfinished}
 use Rattle.cbpf_syntax.specs.Refusals.{ParseFault, IsLargeNegative, IsStuckAt, IsRefusedAt, IsFirstRefusal}
 use Rattle.cbpf_syntax.specs.Refusals.{IsAccepted, IsPlaceOf, IsRefusedFor}
-use Rattle.cbpf_syntax.specs.Reading.{IsFirstLarge}
+use Rattle.cbpf_syntax.specs.Ahead.{IsFirstLarge}
 use Rattle.cbpf_syntax.specs.Laws.{OneRefusal, EachParsed}
 use Rattle.cbpf_syntax.proofs.Cuts.{some-same}
 use Rattle.cbpf_syntax.proofs.Greedy.{begins_take}

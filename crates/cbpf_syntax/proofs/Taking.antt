@@ -27,7 +27,7 @@ use Rattle.cbpf_syntax.specs.Views.{lexeme_of, row_of}
 use Rattle.cbpf_syntax.specs.Steps.{Goes, IsNextItem, Stuck, starts_with_label}
 use Rattle.cbpf_syntax.specs.Refusals.{symbol_at, is_large_at, IsLargeNegative, IsPlaceOf}
 use Rattle.std.proofs.lemmas.List.{append_cancel_left}
-use Rattle.cbpf_syntax.specs.Reading.{Ahead, IsReading, MayRemain, IsStepOf, step_len, StartsWithWord, IsFirstLarge}
+use Rattle.cbpf_syntax.specs.Ahead.{Ahead, IsReading, MayRemain, IsStepOf, step_len, StartsWithWord, IsFirstLarge}
 use Rattle.cbpf_syntax.proofs.Ahead.{next_more, stuck_more, label_more}
 
 -- the tokens that were read are the first of the whole text's

@@ -16,4 +16,4 @@ pub mod Choice
 pub mod Steps
 pub mod Refusals
 pub mod Laws
-pub mod Reading
+pub mod Ahead

@@ -71,6 +71,34 @@ one c = (c ∷ []) ∷ []
 abbrev pub byte : ℕ → List (List Class)
 byte b = one (the_mark b)
 
+-- the marks that stand by themselves
+abbrev open_bracket : List (List Class)
+open_bracket = byte 91
+
+abbrev close_bracket : List (List Class)
+close_bracket = byte 93
+
+abbrev open_parenthesis : List (List Class)
+open_parenthesis = byte 40
+
+abbrev close_parenthesis : List (List Class)
+close_parenthesis = byte 41
+
+abbrev asterisk : List (List Class)
+asterisk = byte 42
+
+abbrev ampersand : List (List Class)
+ampersand = byte 38
+
+abbrev plus : List (List Class)
+plus = byte 43
+
+abbrev hash : List (List Class)
+hash = byte 35
+
+abbrev pub comma : List (List Class)
+comma = byte 44
+
 -- a number with an optional `+` or `-`
 abbrev pub signed : List (List Class)
 signed = (literal ∷ []) ∷ (the_mark 43 ∷ literal ∷ []) ∷ (the_mark 45 ∷ negated ∷ []) ∷ []
@@ -97,26 +125,24 @@ label = one name
 
 -- `[n]`
 abbrev pub absolute : List (List Class)
-absolute = byte 91 · signed · byte 93
+absolute = open_bracket · signed · close_bracket
 
 -- `[x + n]`
 abbrev pub indexed : List (List Class)
-indexed = byte 91 · x_operand · byte 43 · signed · byte 93
+indexed = open_bracket · x_operand · plus · signed · close_bracket
 
 -- `M[n]`
 abbrev pub memory : List (List Class)
-memory = one (the_word memory_word) · byte 91 · signed · byte 93
+memory = one (the_word memory_word) · open_bracket · signed · close_bracket
 
 -- `#n`
 abbrev pub immediate : List (List Class)
-immediate = byte 35 · signed
+immediate = hash · signed
 
 -- `4*([n]&0xf)`
 abbrev pub header : List (List Class)
-header = one (exactly 4) · byte 42 · byte 40 · byte 91 · signed · byte 93 · byte 38 · one (exactly 15) · byte 41
-
-abbrev pub comma : List (List Class)
-comma = byte 44
+header = one (exactly 4) · asterisk · open_parenthesis · open_bracket · signed · close_bracket · ampersand
+    · one (exactly 15) · close_parenthesis
 
 -- the form of no tokens
 abbrev pub no_operand : List (List Class)

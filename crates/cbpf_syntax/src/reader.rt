@@ -8,8 +8,8 @@ ghost use Rattle.cbpf_syntax.specs.Tokens.{Lexes, LexesTo, IsLexFault};
 ghost use Rattle.cbpf_syntax.specs.Lexemes.{AreLexemes, AreLexemesTo};
 ghost use Rattle.cbpf_syntax.specs.Lexemes as lexemes;
 ghost use Rattle.cbpf_syntax.specs.Refusals.{ParseFault, IsStuckAt, IsRefusedFor, reported_at};
-ghost use Rattle.cbpf_syntax.specs.Reading.{IsReading, IsStepOf, step_len, left, StartsWithWord};
-ghost use Rattle.cbpf_syntax.specs.Reading.{IsFirstLarge, ReadsOn, MayRemain};
+ghost use Rattle.cbpf_syntax.specs.Ahead.{IsReading, IsStepOf, step_len, left, StartsWithWord};
+ghost use Rattle.cbpf_syntax.specs.Ahead.{IsFirstLarge, ReadsOn, MayRemain};
 ghost use Rattle.cbpf_syntax.specs.Views.{lexeme_of};
 
 use crate::item::{Row, instruction, starts_with_label};
@@ -159,7 +159,7 @@ pub struct Reader<'a, A: Allocator> {
 
 impl<'a, A: Allocator> Model for Reader<'a, A> {
     ghost use Rattle.std.specs.Prelude.{◌≡◌, ◌≤◌, length, drop};
-    ghost use Rattle.cbpf_syntax.specs.Reading.{Ahead};
+    ghost use Rattle.cbpf_syntax.specs.Ahead.{Ahead};
 
     ghost Value = { Ahead };
 

@@ -18,7 +18,7 @@ use Rattle.cbpf_text.specs.Refusals.IsTextFault.{of_piece, of_tokens}
 use Rattle.cbpf_text.specs.declared.fault.AsmFault.TheVariants as faults
 use Rattle.std.proofs.lemmas.List.{length-map, length-take-le, drop_at, nil_from_length}
 use Rattle.cbpf_syntax.specs.Views.{lexeme_of, row_of, label_words}
-use Rattle.cbpf_syntax.specs.Reading.{Ahead, IsReading, IsFirstLarge, MayRemain}
+use Rattle.cbpf_syntax.specs.Ahead.{Ahead, IsReading, IsFirstLarge, MayRemain}
 use Rattle.std.specs.Prelude.{Ok}
 use Rattle.std.proofs.Math.Seq.{take-append_seam}
 use Rattle.std.proofs.lemmas.Bool.{and_parts}
@@ -44,7 +44,7 @@ tokens_assembled ts is insns p a sound e = record {
   items = is;
   parsed = p;
   ranged = λ i h. a ParseFault.LargeNegative i h;
-  sound = sound;
+  no_fault = sound;
   encoded = e;
 }
 

@@ -84,7 +84,7 @@ refused_before o p (placed.At kind at) h = rw h refl
 -- The targets of a statement, which are its item's: what their offsets say of the item.
 
 abbrev pub use_of : ℕ → Bool → Lexeme → Use
-use_of index short t = record { index = index; target = t; short = short }
+use_of index short t = record { index = index; target = t; conditional = short }
 
 -- what is answered to a target
 abbrev pub IsOffset : List (Lexeme × ℕ) → ℕ → Bool → Target → Result ℕ PlacedFault → Type 0

@@ -297,7 +297,7 @@ tokens_assemble list b sound =
       items = items;
       parsed = b.parsed 0;
       ranged = no_large_negative 0 b.segments b.positive;
-      sound = fault_counted items (λ z. omega (arith, z, b.size 0, sound_some list sound)) few
+      no_fault = fault_counted items (λ z. omega (arith, z, b.size 0, sound_some list sound)) few
           ∙ rw (no_repeat 0 items [] (omega arith) (b.labelled 0) (All-nil (Below 0)), b.good 0 _ places) refl;
       encoded = b.encoded 0 (labels_from 0 items) places;
     }

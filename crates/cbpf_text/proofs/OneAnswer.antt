@@ -33,7 +33,7 @@ not_tokens : (ts : List Lexeme) (insns : List Insn) (kind : AsmKind) (at : ℕ) 
 not_tokens ts insns kind at a (of_grammar f n r) =
     items_accepted ts a.items a.parsed a.ranged f r.place r.first.refused
 not_tokens ts insns kind at a (of_items is k n p acc f) =
-    let e : ◌≡◌ {A = Option (AsmKind × ℕ)} None (Some (k, n)) = sym a.sound ∙ (ap items_fault (one_reading ts a.items is a.parsed p) ∙ f) in cc
+    let e : ◌≡◌ {A = Option (AsmKind × ℕ)} None (Some (k, n)) = sym a.no_fault ∙ (ap items_fault (one_reading ts a.items is a.parsed p) ∙ f) in cc
 
 pub never_both : NeverBoth
 never_both text insns kind line a (of_piece bad l p) = lexer.never_both text a.tokens bad l a.lexed p

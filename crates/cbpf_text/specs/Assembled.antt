@@ -42,7 +42,7 @@ pub record AssembleTokens (ts : List Lexeme) (insns : List Insn) : Type 0 where
   pub items : List Item
   pub parsed : Items ts items
   pub ranged : (i : ℕ) → IsLargeNegative ts i → ⊥
-  pub sound : items_fault items ≡ None
+  pub no_fault : items_fault items ≡ None
   pub encoded : insns ≡ insns_from (labels_from 0 items) 0 items
 
 -- the text assembles to the instructions: its tokens do

@@ -33,7 +33,7 @@ bad_piece_kind pieces.LargeNumber = kinds.LargeNumber
 pub record Use : Type 0 where
   pub index : ℕ
   pub target : Lexeme
-  pub short : Bool
+  pub conditional : Bool
 
 abbrev pub is_conditional : Fields → Bool
 is_conditional Constant = false
@@ -44,7 +44,7 @@ is_conditional Swapped = true
 -- the uses of the item at an index
 abbrev pub uses_of : ℕ → Item → List Use
 uses_of index item =
-    map (λ t. record { index = index; target = t; short = is_conditional item.row.fields }) (targets_in item)
+    map (λ t. record { index = index; target = t; conditional = is_conditional item.row.fields }) (targets_in item)
 
 -- the uses of items of which the first has the index, in text order
 abbrev pub uses_from : ℕ → List Item → List Use
@@ -57,7 +57,7 @@ abbrev pub place_fault : Use → Option ℕ → Option AsmKind
 place_fault u None = Some kinds.LabelNotSet
 place_fault u (Some place) =
     if nat_le place u.index then Some kinds.NotAfter
-    else (if u.short && nat_lt (u.index + 1 + FARTHEST) place then Some kinds.TooFar
+    else (if u.conditional && nat_lt (u.index + 1 + FARTHEST) place then Some kinds.TooFar
     else None)
 
 -- the same among labels, with the place in the text that shows it

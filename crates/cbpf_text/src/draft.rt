@@ -8,7 +8,7 @@ ghost use Rattle.cbpf_syntax.specs.Lexemes.{AreLexemes};
 ghost use Rattle.cbpf_syntax.specs.Items as items;
 ghost use Rattle.cbpf_syntax.specs.Items.{Items};
 ghost use Rattle.cbpf_syntax.specs.Refusals.{IsAccepted, IsStuckAt};
-ghost use Rattle.cbpf_syntax.specs.Reading.{IsReading, StartsWithWord};
+ghost use Rattle.cbpf_syntax.specs.Ahead.{IsReading, StartsWithWord};
 ghost use Rattle.cbpf_syntax.specs.Views.{lexeme_of, row_of};
 ghost use Rattle.cbpf_text.specs.Drafts.{IsStatement, IsDraft, AreTargets, AreSet, same_name};
 ghost use Rattle.cbpf_text.specs.Refusals.{IsRefused};

@@ -32,7 +32,7 @@ fn offset<A: Allocator>(
 ) -> Result<u32, PlacedFault>
     ensures answer { (ls : List (lexemes.Lexeme × ℕ)) → Resolves ls (λ k. get same_name labels.now k) →
         (label : lexemes.Lexeme) → KeepsLabel target.now label →
-        IsAnswer (use_fault ls (record { index = index; target = label; short = short }))
+        IsAnswer (use_fault ls (record { index = index; target = label; conditional = short }))
         (offset_of ls index (Some label)) result }
     ensures near { IfOk result (λ n. short ≡ true → n ≤ FARTHEST) }
 {

@@ -1,5 +1,5 @@
 use Rattle.std.proofs.Common.{◌≡◌, ◌≤◌, ◌+◌, length, map, take}
-use Rattle.cbpf_syntax.specs.Reading.{ReadsOn}
+use Rattle.cbpf_syntax.specs.Ahead.{ReadsOn}
 use Rattle.cbpf_syntax.specs.Views.{lexeme_of}
 use Rattle.cbpf_syntax.proofs.reader.read_more.Given as goal
 

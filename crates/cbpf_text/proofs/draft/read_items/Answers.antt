@@ -9,7 +9,7 @@ use Rattle.cbpf_text.specs.declared.name.Name.{Name}
 use Rattle.cbpf_text.specs.Drafts.{same_name, IsDraft}
 use Rattle.cbpf_syntax.specs.Items.{Item, Items}
 use Rattle.cbpf_syntax.specs.Lexemes.{Lexeme, AreLexemes}
-use Rattle.cbpf_syntax.specs.Reading.{Ahead, IsReading, IsStepOf, IsFirstLarge, MayRemain, step_len}
+use Rattle.cbpf_syntax.specs.Ahead.{Ahead, IsReading, IsStepOf, IsFirstLarge, MayRemain, step_len}
 use Rattle.cbpf_syntax.specs.Views.{lexeme_of}
 use Rattle.cbpf_syntax.proofs.Taking.{remains}
 use Rattle.cbpf_syntax.proofs.FirstRefusal.{items_accepted}

@@ -2,7 +2,7 @@ use Rattle.std.proofs.Common.{◌≡◌, ◌≤◌, List, length}
 use Rattle.cbpf_syntax.specs.Lexemes.{Lexeme}
 use Rattle.cbpf_code.specs.declared.checker.TheConstants.{MAX_INSTRUCTIONS}
 use Rattle.indexmap.specs.IndexMap.{get}
-use Rattle.cbpf_syntax.specs.Reading.{IsReading, left}
+use Rattle.cbpf_syntax.specs.Ahead.{IsReading, left}
 use Rattle.cbpf_text.specs.Drafts.{same_name}
 use Rattle.cbpf_text.proofs.FaultParts.{IsState}
 use Rattle.cbpf_text.proofs.draft.read_items.Given as goal

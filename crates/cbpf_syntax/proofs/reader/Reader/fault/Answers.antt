@@ -2,7 +2,7 @@ use Rattle.std.proofs.Common.{◌≡◌, ◌≤◌, ◌<◌, ◌+◌, ◌-◌, �
 use Rattle.std.proofs.Common.{length, map, drop, take, List, arith, append-nil, append_assoc, length-append, get_or}
 use Rattle.std.proofs.lemmas.List.{drop_all, drop_more}
 use Rattle.std.specs.Prelude.{option_map, slice_get}
-use Rattle.cbpf_syntax.specs.Reading.{IsFirstLarge}
+use Rattle.cbpf_syntax.specs.Ahead.{IsFirstLarge}
 use Rattle.cbpf_syntax.specs.Refusals.{IsStuckAt, IsPlaceOf, IsRefusedFor}
 use Rattle.cbpf_syntax.specs.Refusals.ParseFault.{Misplaced, LargeNegative, Unfinished}
 use Rattle.cbpf_syntax.specs.Lexemes.{Lexeme}

@@ -2,7 +2,7 @@ use Rattle.std.proofs.Common.{ℕ, ◌∙◌, sym, ap, subst, map, arith, List}
 use Rattle.std.proofs.lemmas.Result.{err_from_is_err_and}
 use Rattle.std.proofs.lemmas.List.{length-map}
 use Rattle.cbpf_syntax.specs.Tokens.{IsLexFault}
-use Rattle.cbpf_syntax.specs.Reading.{Ahead, IsReading, IsStepOf}
+use Rattle.cbpf_syntax.specs.Ahead.{Ahead, IsReading, IsStepOf}
 use Rattle.cbpf_syntax.specs.Views.{lexeme_of}
 use Rattle.cbpf_syntax.proofs.Taking.{step_more, step_all}
 use Rattle.cbpf_syntax.proofs.reader.Reader.step.Goals.{then-self-via-then-self}

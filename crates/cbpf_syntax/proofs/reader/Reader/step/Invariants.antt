@@ -1,6 +1,6 @@
 use Rattle.std.proofs.Common.{◌≡◌, ◌≤◌, ◌-◌, ◌+◌, List, cond, length}
 use Rattle.cbpf_syntax.specs.Lexemes.{Lexeme}
-use Rattle.cbpf_syntax.specs.Reading.{IsReading, left}
+use Rattle.cbpf_syntax.specs.Ahead.{IsReading, left}
 use Rattle.cbpf_syntax.proofs.reader.Reader.step.Given as goal
 
 abbrev pub invariant-loop-self : goal.invariant-loop-self
