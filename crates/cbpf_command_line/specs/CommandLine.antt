@@ -1,7 +1,8 @@
 -- The command line of the program, and what its words ask for:
 -- this project's own, by `clap`'s meaning of a command line.
-use Rattle.std.specs.Prelude.{◌≡◌, ◌≢◌, ◌⊎◌, if◌then◌else◌, true, [], List, Option, Some, None, option_map, codes}
+use Rattle.std.specs.Prelude.{◌≡◌, ◌≢◌, ◌⊎◌, ℕ, if◌then◌else◌, Bool, true, false, [], List, Option, Some, None, option_map, codes}
 use Rattle.std.specs.Prelude.{bytes_eq, String}
+use Rattle.std.specs.Option.{option_map_or}
 use Rattle.clap.specs.Words.{App, Rule, Row, Text, new_app, new_rule, with_rule, with_subcommand, first_of}
 use Rattle.clap.specs.Words.{subcommand_of, fault_of}
 use Rattle.clap.specs.Kinds.{IsAmong}
@@ -15,19 +16,25 @@ use Rattle.cbpf_command_line.specs.declared.job.Job.TheVariants as job
 use Rattle.cbpf_command_line.specs.declared.job.LineFault.{LineFault}
 use Rattle.cbpf_command_line.specs.declared.job.LineFault.TheVariants.{Help, Refused, Memory}
 
+-- a flag of one letter
+abbrev pub flag_rule : Text → ℕ → Rule
+flag_rule id letter = record (new_rule id) { short = Some letter; action = Some SetTrue }
+
+-- a file's name, which may be left out
+abbrev pub file_rule : Text → Rule
+file_rule id = record (new_rule id) { value_names = 1 }
+
 -- `-c`
 abbrev pub form_rule : Rule
-form_rule = record (new_rule (codes "c")) { short = Some 99; action = Some SetTrue }
+form_rule = flag_rule (codes "c") 99
 
 -- `asm [-c] [file]`
 abbrev pub asm_app : App
-asm_app =
-    with_rule (with_rule (new_app (codes "asm")) form_rule) (record (new_rule (codes "file")) { value_names = 1 })
+asm_app = with_rule (with_rule (new_app (codes "asm")) form_rule) (file_rule (codes "file"))
 
 -- `dbg [input [output]]`
 abbrev pub dbg_app : App
-dbg_app = with_rule (with_rule (new_app (codes "dbg")) (record (new_rule (codes "input")) { value_names = 1 }))
-    (record (new_rule (codes "output")) { value_names = 1 })
+dbg_app = with_rule (with_rule (new_app (codes "dbg")) (file_rule (codes "input"))) (file_rule (codes "output"))
 
 -- `cbpf [--version]`
 abbrev pub bare_app : App
@@ -42,14 +49,13 @@ pub data Asked : Type 0 where
   asm : (form : Form) (file : Option Text) → Asked
   dbg : (input output : Option Text) → Asked
 
--- the C form where the flag is set
-abbrev pub form_by : Option Text → Form
-form_by None = Decimal
-form_by (Some set) = if bytes_eq set (codes "true") then C else Decimal
+-- a flag is set, by what was found for the arguments
+abbrev pub is_set : Text → List Row → Bool
+is_set id rows = option_map_or (λ set. bytes_eq set (codes "true")) (first_of id rows) false
 
--- the form by what was found for the arguments
+-- the C form where the flag is set
 abbrev pub form_in : List Row → Form
-form_in rows = form_by (first_of (codes "c") rows)
+form_in rows = if is_set (codes "c") rows then C else Decimal
 
 -- by what was found for the arguments of `asm`
 abbrev pub asm_asked : List Row → Asked

@@ -1,32 +1,24 @@
 -- The command line of the program with `why`, and what its words ask for:
 -- this project's own, by `clap`'s meaning of a command line.
-use Rattle.std.specs.Prelude.{◌≡◌, ℕ, Bool, true, false, nat_lt, if◌then◌else◌, List, [], ◌∷◌, map, filter, fold}
+use Rattle.std.specs.Prelude.{◌≡◌, Bool, true, false, nat_lt, if◌then◌else◌, List, [], ◌∷◌, map, filter, fold}
 use Rattle.std.specs.Prelude.{length}
-use Rattle.std.specs.Prelude.{Option, Some, None, option_map, slice_get, unwrap_or, codes, bytes_eq, Result}
+use Rattle.std.specs.Prelude.{Option, Some, option_map, slice_get, unwrap_or, codes, bytes_eq, Result}
 use Rattle.std.specs.Prelude.{MatchResult}
 use Rattle.std.specs.Option.{option_map_or}
 use Rattle.clap.specs.Lexer.{usize_max}
 use Rattle.clap.specs.Words.{App, Rule, Row, Text, new_app, new_rule, with_rule, with_subcommand, first_of, all_of}
 use Rattle.clap.specs.Words.{subcommand_of, fault_of}
 pub use Rattle.clap.specs.Kinds.{Kinds, or_else}
-use Rattle.clap.specs.declared.builder.action.ArgAction.TheVariants.{SetTrue, Append}
+use Rattle.clap.specs.declared.builder.action.ArgAction.TheVariants.{Append}
 use Rattle.clap.specs.declared.error.kind.ErrorKind.TheVariants.{ArgumentConflict, ValueValidation}
-use Rattle.cbpf_command_line.specs.CommandLine.{cbpf_app, Asked, dbg, asked_by, asked_for, faults_in, meaning, text_of}
-use Rattle.cbpf_command_line.specs.CommandLine.{IsFaultOf}
+use Rattle.cbpf_command_line.specs.CommandLine.{cbpf_app, Asked, asked_by, asked_for, faults_in, meaning, text_of}
+use Rattle.cbpf_command_line.specs.CommandLine.{IsFaultOf, flag_rule, file_rule, is_set}
 use Rattle.cbpf_command_line.specs.declared.job.LineFault.{LineFault}
 use Rattle.cbpf_command_line.specs.declared.request.Detail.{Detail}
 use Rattle.cbpf_command_line.specs.declared.request.Detail.TheVariants.{Packets, Listing, Graph}
 use Rattle.cbpf_command_line.specs.declared.request.WhyWords.{WhyWords}
 use Rattle.cbpf_command_line.specs.declared.request.RequestWords.{RequestWords}
 use Rattle.cbpf_command_line.specs.declared.request.RequestWords.TheVariants as request
-
--- a flag of one letter
-abbrev pub flag_rule : Text → ℕ → Rule
-flag_rule id letter = record (new_rule id) { short = Some letter; action = Some SetTrue }
-
--- a file's name, which may be left out
-abbrev pub file_rule : Text → Rule
-file_rule id = record (new_rule id) { value_names = 1 }
 
 -- `-v EXT=N`, as often as wanted
 abbrev pub value_rule : Rule
@@ -72,10 +64,6 @@ pub record WhyAsked : Type 0 where
 pub data Requested : Type 0 where
   job : (asked : Asked) → Requested
   why : (asked : WhyAsked) → Requested
-
--- a flag is set
-abbrev pub is_set : Text → List Row → Bool
-is_set id rows = option_map_or (λ set. bytes_eq set (codes "true")) (first_of id rows) false
 
 -- the flag of a report
 abbrev pub flag_of : Detail → Text

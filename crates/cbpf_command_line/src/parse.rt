@@ -1,7 +1,7 @@
 //! Reads a command line.
 
 ghost use Rattle.std.specs.Prelude.{◌≡◌, false, List, [], map, option_map, IfOk, IfErr};
-ghost use Rattle.clap.specs.Words.{app_of, new_app, new_rule, rule_of, first_of, subcommand_rows_of, rows_of, found_of};
+ghost use Rattle.clap.specs.Words.{app_of, new_app, rule_of, first_of, subcommand_rows_of, rows_of, found_of};
 ghost use Rattle.clap.specs.declared.builder.command.Command.TheViews.{out-Command as fields_of};
 ghost use Rattle.clap.specs.Kinds.{HasKind};
 ghost use Rattle.clap.specs.Values.{kind_of};
@@ -99,7 +99,7 @@ fn form_flag<'a>(alloc: Global) -> Arg<'a>
 
 /// The name of a file, which may be left out.
 pub(crate) fn file_name<'a>(alloc: Global, id: &'a str, name: &'a str, help: &'a str) -> Arg<'a>
-    ensures rule { rule_of result ≡ record (new_rule id.entry.now) { value_names = 1 } }
+    ensures rule { rule_of result ≡ spec.file_rule id.entry.now }
     ensures local { result.global ≡ false }
 {
     Arg::new(alloc, id).value_name(name).help(help)
@@ -155,13 +155,21 @@ pub(crate) fn given_text<'a>(matches: &ArgMatches<'a>, id: &str) -> Option<&'a s
     matches.get_str(id)
 }
 
-/// The form by the value of its flag.
-fn form_of(flag: Option<&str>) -> Form
-    ensures { result ≡ spec.form_by (option_map (λ s. s.now) flag.entry) }
+/// Whether a flag is set.
+pub(crate) fn is_set(matches: &ArgMatches<'_>, letter: &str) -> bool
+    ensures { result ≡ spec.is_set letter.now (rows_of (found_of matches.now)) }
 {
-    match flag {
-        Some("true") => Form::C,
-        _ => Form::Decimal,
+    matches!(given_text(matches, letter), Some("true"))
+}
+
+/// The form by its flag.
+fn form_of(matches: &ArgMatches<'_>) -> Form
+    ensures { result ≡ spec.form_in (rows_of (found_of matches.now)) }
+{
+    if is_set(matches, "c") {
+        Form::C
+    } else {
+        Form::Decimal
     }
 }
 
@@ -184,7 +192,7 @@ fn asm_asked(alloc: Global, matches: &ArgMatches<'_>) -> Result<Job, AllocError>
     ensures { IfOk result (λ j. spec.meaning j ≡ spec.asm_asked (rows_of (found_of matches.now))) }
 {
     Ok(Job::Asm {
-        form: form_of(given_text(matches, "c")),
+        form: form_of(matches),
         file: given_name(alloc, matches, "file")?,
     })
 }

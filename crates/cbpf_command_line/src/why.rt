@@ -6,13 +6,11 @@ ghost use Rattle.clap.specs.Words.{app_of, with_rule, rule_of, rows_of, found_of
 ghost use Rattle.clap.specs.declared.builder.command.Command.TheViews.{out-Command as fields_of};
 ghost use Rattle.clap.specs.Kinds.{HasKind};
 ghost use Rattle.clap.specs.declared.error.kind.ErrorKind.TheVariants as kind;
-ghost use Rattle.cbpf_command_line.specs.CommandLine.{text_of, IsFaultOf, IsRefusalKind};
+ghost use Rattle.cbpf_command_line.specs.CommandLine.{text_of, IsFaultOf, IsRefusalKind, flag_rule};
 ghost use Rattle.cbpf_command_line.specs.RequestLine as spec;
 
 use crate::job::{Job, LineFault};
-use crate::parse::{
-    bare, command, file_name, given_name, given_text, job_of, line_fault, parse_fault,
-};
+use crate::parse::{bare, command, file_name, given_name, is_set, job_of, line_fault, parse_fault};
 use crate::request::{Detail, RequestWords, WhyWords};
 use clap::error::ErrorKind;
 use clap::{Arg, ArgAction, ArgMatches, Command};
@@ -51,7 +49,7 @@ const PACKET: &str = "The packets to look at [default: all]";
 
 /// A flag that has one letter.
 fn flag<'a>(alloc: Global, letter: &'a str, short: char, help: &'a str) -> Arg<'a>
-    ensures rule { rule_of result ≡ spec.flag_rule letter.entry.now short }
+    ensures rule { rule_of result ≡ flag_rule letter.entry.now short }
     ensures local { result.global ≡ false }
 {
     Arg::new(alloc, letter)
@@ -141,13 +139,6 @@ fn wide_command<'a>(alloc: Global) -> Result<Command<'a>, AllocError>
     ensures { IfOk result (λ c. app_of c ≡ spec.wide_app) }
 {
     command(alloc)?.subcommand(why_command(alloc)?)
-}
-
-/// Whether a flag is set.
-fn is_set(matches: &ArgMatches<'_>, letter: &str) -> bool
-    ensures { result ≡ spec.is_set letter.now (rows_of (found_of matches.now)) }
-{
-    matches!(given_text(matches, letter), Some("true"))
 }
 
 /// Which report the flags ask for, or which two of them can't stand together.
