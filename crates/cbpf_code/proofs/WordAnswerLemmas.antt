@@ -2,7 +2,7 @@
 -- and a text has one fault at most.
 use Rattle.std.proofs.Common.{◌≡◌, ◌≢◌, ℕ, ◌⊎◌, inl, inr, List, [], ◌∷◌, length, sym, ◌∙◌, ap, Option, Some, None, refl}
 use Rattle.std.proofs.Common.{arith, tests}
-use Rattle.cbpf_code.specs.WordTokens.{WordToken, run, single, tokens}
+use Rattle.cbpf_code.specs.WordTokens.{WordToken, numeral, single, tokens}
 use Rattle.std.specs.Option.{option_or}
 use Rattle.cbpf_code.specs.WordText.{Due, count, next_due, limit_of, token_fault, first_fault, fault_of}
 use Rattle.cbpf_code.specs.WordText.{Spells, Miscounts, Refused}
@@ -29,8 +29,8 @@ faulty-once text e f (inr a) (inl b) = let none = a.good in absurd (cc)
 
 -- no token and no end is out of memory
 token_fault-other : (range : Option ℕ) (m : WordToken) → token_fault range m ≢ Some Memory
-token_fault-other None (run p ds) h = cc
-token_fault-other (Some range) (run p ds) h = grind (arith, tests)
+token_fault-other None (numeral p ds) h = cc
+token_fault-other (Some range) (numeral p ds) h = grind (arith, tests)
 token_fault-other None (single p b) h = grind (arith, tests)
 token_fault-other (Some range) (single p b) h = grind (arith, tests)
 

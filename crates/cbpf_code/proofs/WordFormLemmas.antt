@@ -8,12 +8,12 @@ use Rattle.std.proofs.lemmas.Fmt.{decimal_is_IsNumeral, decimal_nonempty}
 use Rattle.std.proofs.lemmas.List.Elements.{All-head, All-tail}
 use Rattle.std.proofs.lemmas.Str.{digit_value_digit}
 use Rattle.std.proofs.lemmas.Str.Parse.{digit_from_value}
-use Rattle.cbpf_code.specs.WordTokens.{run, is_digit, begins_with_digit, decimal_value, tokens_placed}
+use Rattle.cbpf_code.specs.WordTokens.{numeral, is_digit, begins_with_digit, decimal_value, tokens_placed}
 use Rattle.cbpf_code.specs.WordText.{Due, count, count_comma, code, jt, jf, k, comma, next_due, limit_of}
 use Rattle.cbpf_code.specs.WordText.{first_fault, numbers, Spells}
 use Rattle.cbpf_code.specs.WordForm.{InRange, word_line, word_text}
 use Rattle.cbpf_code.specs.WordSteps.{fields_of}
-use Rattle.cbpf_code.proofs.WordTokenLemmas.{law-empty, law-blank, law-single, law-run}
+use Rattle.cbpf_code.proofs.WordTokenLemmas.{law-empty, law-blank, law-single, law-numeral}
 use Rattle.cbpf_code.proofs.WordStepLemmas.{whole-spells}
 use Rattle.cbpf_code.specs.declared.insn.Insn.{Insn}
 
@@ -42,9 +42,9 @@ some_digits [] l e = omega (arith, l)
 some_digits (c ∷ cs) l e = cc
 
 tokens-decimal : (at n : ℕ) (rest : List ℕ) → n < 2 ^ 64 → begins_with_digit rest ≡ false
-    → tokens_placed at (decimal n ++ rest) ≡ run at (decimal n) ∷ tokens_placed (at + length (decimal n)) rest
+    → tokens_placed at (decimal n ++ rest) ≡ numeral at (decimal n) ∷ tokens_placed (at + length (decimal n)) rest
 tokens-decimal at n rest h stop =
-    grind (arith, law-run, some_digits, decimal_nonempty, all_digits, decimal_is_IsNumeral)
+    grind (arith, law-numeral, some_digits, decimal_nonempty, all_digits, decimal_is_IsNumeral)
 
 -- ---- texts, wherever they stand
 

@@ -2,7 +2,7 @@
 use Rattle.std.specs.Prelude.{◌≡◌, ◌≢◌, ◌≤◌, ℕ, ◌^◌, ◌⊎◌, ◌==◌, nat_lt, if◌then◌else◌, List, [], ◌∷◌, length, drop}
 use Rattle.std.specs.Prelude.{slice_index, Option, Some, None}
 use Rattle.std.specs.Option.{option_or}
-use Rattle.cbpf_code.specs.WordTokens.{WordToken, run, single, tokens, decimal_value}
+use Rattle.cbpf_code.specs.WordTokens.{WordToken, numeral, single, tokens, decimal_value}
 use Rattle.cbpf_code.specs.declared.insn.Insn.{Insn}
 use Rattle.cbpf_code.specs.declared.words.WordFault.{WordFault}
 use Rattle.cbpf_code.specs.declared.words.WordFault.TheVariants.{Memory, NumberExpected, OutOfRange, UnexpectedByte}
@@ -38,9 +38,9 @@ limit_of _ = None
 
 -- what is wrong with a token, where a comma or a number below a limit is due
 abbrev pub token_fault : Option ℕ → WordToken → Option WordFault
-token_fault None (run p ds) = Some (CommaExpected p)
+token_fault None (numeral p ds) = Some (CommaExpected p)
 token_fault None (single p b) = if b == 44 then None else Some (UnexpectedByte p)
-token_fault (Some limit) (run p ds) = if nat_lt (decimal_value ds) limit then None else Some (OutOfRange p)
+token_fault (Some limit) (numeral p ds) = if nat_lt (decimal_value ds) limit then None else Some (OutOfRange p)
 token_fault (Some limit) (single p b) = if b == 44 then Some (NumberExpected p) else Some (UnexpectedByte p)
 
 -- what is wrong with the end of the text, at place n: it may stand after an instruction and after a comma
@@ -62,7 +62,7 @@ fault_of text = first_fault count (length text) (tokens text)
 -- the values of the runs of digits, in order
 abbrev pub numbers : List WordToken → List ℕ
 numbers [] = []
-numbers (run p ds ∷ ts) = decimal_value ds ∷ numbers ts
+numbers (numeral p ds ∷ ts) = decimal_value ds ∷ numbers ts
 numbers (single p b ∷ ts) = numbers ts
 
 -- numbers in fours

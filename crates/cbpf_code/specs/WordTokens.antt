@@ -4,10 +4,10 @@ use Rattle.std.specs.Prelude.{ℕ, suc, ◌+◌, ◌-◌, ◌*◌, Bool, true, f
 use Rattle.std.specs.Prelude.{[], ◌∷◌, drop, fold}
 use Rattle.std.specs.List.{take_while}
 
--- a run of digits or a single byte, with the place of its first byte
+-- a numeral, which is a run of digits, or a single byte, with the place of its first byte
 pub data WordToken : Type 0 where
-  run : (place : ℕ) (digits : List ℕ) → WordToken
-  single : (place : ℕ) (byte : ℕ) → WordToken
+  numeral : (at : ℕ) (digits : List ℕ) → WordToken
+  single : (at : ℕ) (byte : ℕ) → WordToken
 
 -- an ASCII digit
 abbrev pub is_digit : ℕ → Bool
@@ -21,12 +21,12 @@ abbrev pub begins_with_digit : List ℕ → Bool
 begins_with_digit [] = false
 begins_with_digit (b ∷ bs) = is_digit b
 
--- the tokens that begin in a text whose first byte has the place `at`: within a run of digits a digit begins none
-unfoldable pub tokens_in : (in_run : Bool) → ℕ → List ℕ → List WordToken
-tokens_in in_run at [] = []
-tokens_in in_run at (b ∷ bs) =
-    if is_digit b then (if in_run then tokens_in true (suc at) bs
-    else (run at (b ∷ take_while is_digit bs) ∷ tokens_in true (suc at) bs))
+-- the tokens that begin in a text whose first byte has the place `at`: within a numeral a digit begins none
+unfoldable pub tokens_in : (in_numeral : Bool) → ℕ → List ℕ → List WordToken
+tokens_in in_numeral at [] = []
+tokens_in in_numeral at (b ∷ bs) =
+    if is_digit b then (if in_numeral then tokens_in true (suc at) bs
+    else (numeral at (b ∷ take_while is_digit bs) ∷ tokens_in true (suc at) bs))
     else (if is_blank b then tokens_in false (suc at) bs else (single at b ∷ tokens_in false (suc at) bs))
 
 -- the tokens of a text whose first byte has the place `at`

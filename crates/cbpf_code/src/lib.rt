@@ -31,7 +31,7 @@ pub use listing::{put_line, write_line, write_lines};
 pub use message::Message;
 pub use opcode::{AluOp, Cond, Op, Size, Src, code_of, op_of, op_of_byte};
 pub use program::Program;
-pub use scan::{is_blank, is_digit, laws_of_marks};
+pub use scan::{is_blank, is_digit, laws_of_tokens};
 pub use word_form::write_words;
 pub use words::{WordFault, read_words};
 pub use writing::{

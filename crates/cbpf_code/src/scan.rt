@@ -3,7 +3,7 @@
 ghost use Rattle.std.specs.Prelude.{◌≡◌, ◌≢◌, ◌+◌, ◌<◌, ◌≤◌, ◌^◌, ℕ, min, take, length, slice_index, true, false};
 ghost use Rattle.std.specs.Prelude.{List, [], ◌∷◌, ◌++◌, MatchOption};
 ghost use Rattle.std.specs.List.{AllByRecursion, prefix_len};
-ghost use Rattle.cbpf_code.specs.WordTokens.{single, run, is_digit, is_blank, begins_with_digit, decimal_value, tokens_placed};
+ghost use Rattle.cbpf_code.specs.WordTokens.{single, numeral, is_digit, is_blank, begins_with_digit, decimal_value, tokens_placed};
 ghost use Rattle.cbpf_code.specs.WordTokens.{tokens_from};
 ghost use Rattle.cbpf_code.specs.NextToken.{IsFound};
 
@@ -54,7 +54,7 @@ pub enum TokenKind {
 /// A token with the place of its first byte and the place after its last.
 #[derive(Clone, Copy)]
 pub struct FoundToken {
-    pub place: usize,
+    pub start: usize,
     pub end: usize,
     pub kind: TokenKind,
 }
@@ -80,37 +80,37 @@ pub(crate) fn next_token(text: &[u8], at: usize) -> Option<FoundToken>
     requires { at ≤ length text.now }
     ensures { MatchOption result (tokens_from text.now at ≡ []) (λ f. IsFound text.now at f) }
 {
-    let place = skip_blanks(text, at);
-    if place == text.len() {
+    let start = skip_blanks(text, at);
+    if start == text.len() {
         return None;
     }
-    let byte = text[place];
+    let byte = text[start];
     if is_digit(byte) {
-        let (len, value) = leading_digits(&text[place..]);
+        let (len, value) = leading_digits(&text[start..]);
         return Some(FoundToken {
-            place,
-            end: place + len,
+            start,
+            end: start + len,
             kind: TokenKind::Digits(value),
         });
     }
     Some(FoundToken {
-        place,
-        end: place + 1,
+        start,
+        end: start + 1,
         kind: TokenKind::Byte(byte),
     })
 }
 
 /// How a text falls into tokens, read from its front: a blank is passed, a byte that is neither blank
-/// nor digit stands alone, and digits are one run up to a byte that is none. It does nothing; its
+/// nor digit stands alone, and the digits up to a byte that is none are one numeral. It does nothing; its
 /// clauses are laws of the tokens that [`read_words`](crate::read_words) is defined by.
-#[tactic(auto, using(crate::proofs::WordTokenLemmas::marks))]
-pub fn laws_of_marks()
+#[tactic(auto, using(crate::proofs::WordTokenLemmas::laws))]
+pub fn laws_of_tokens()
     ensures empty { (at : ℕ) → tokens_placed at [] ≡ [] }
     ensures blank { (at b : ℕ) (rest : List ℕ) → is_blank b ≡ true →
         tokens_placed at (b ∷ rest) ≡ tokens_placed (at + 1) rest }
     ensures single { (at b : ℕ) (rest : List ℕ) → is_blank b ≡ false → is_digit b ≡ false →
         tokens_placed at (b ∷ rest) ≡ single at b ∷ tokens_placed (at + 1) rest }
-    ensures run { (at : ℕ) (digits rest : List ℕ) → digits ≢ [] → AllByRecursion (λ b. is_digit b ≡ true) digits →
+    ensures numeral { (at : ℕ) (digits rest : List ℕ) → digits ≢ [] → AllByRecursion (λ b. is_digit b ≡ true) digits →
         begins_with_digit rest ≡ false →
-        tokens_placed at (digits ++ rest) ≡ run at digits ∷ tokens_placed (at + length digits) rest }
+        tokens_placed at (digits ++ rest) ≡ numeral at digits ∷ tokens_placed (at + length digits) rest }
 {}

@@ -96,9 +96,9 @@ fn decimal_at(text: &[u8], at: usize, range: u64) -> Result<(u64, usize), WordFa
         None => Err(WordFault::NumberExpected(text.len())),
         Some(found) => match found.kind {
             TokenKind::Digits(n) if n < range => Ok((n, found.end)),
-            TokenKind::Digits(_) => Err(WordFault::OutOfRange(found.place)),
-            TokenKind::Byte(b',') => Err(WordFault::NumberExpected(found.place)),
-            TokenKind::Byte(_) => Err(WordFault::UnexpectedByte(found.place)),
+            TokenKind::Digits(_) => Err(WordFault::OutOfRange(found.start)),
+            TokenKind::Byte(b',') => Err(WordFault::NumberExpected(found.start)),
+            TokenKind::Byte(_) => Err(WordFault::UnexpectedByte(found.start)),
         },
     }
 }
@@ -113,9 +113,9 @@ fn comma_at(text: &[u8], at: usize) -> Result<usize, WordFault>
     match next_token(text, at) {
         None => Err(WordFault::CommaExpected(text.len())),
         Some(found) => match found.kind {
-            TokenKind::Digits(_) => Err(WordFault::CommaExpected(found.place)),
+            TokenKind::Digits(_) => Err(WordFault::CommaExpected(found.start)),
             TokenKind::Byte(b',') => Ok(found.end),
-            TokenKind::Byte(_) => Err(WordFault::UnexpectedByte(found.place)),
+            TokenKind::Byte(_) => Err(WordFault::UnexpectedByte(found.start)),
         },
     }
 }

@@ -1,4 +1,4 @@
--- Each token list is items, or goes on no farther than a place: of each the longest front that begins a row is found.
+-- Each token list is items, or goes on no farther than an index: of each the longest front that begins a row is found.
 use Rattle.std.proofs.Common.{rules, ◌≡◌, ℕ, zero, suc, ◌+◌, ◌<◌, ◌≤◌, Bool, true, false, List, [], ◌∷◌, ◌++◌, length}
 use Rattle.std.proofs.Common.{take, drop, refl, arith, ◌⊎◌, inl, inr}
 use Rattle.std.specs.List.{list_any}
@@ -93,7 +93,7 @@ step (t ∷ u ∷ ts) = elim (cases_Bool (fits (the_mark 58) u.symbol)) [
   | inr c ↦ bare_step t (u ∷ ts) c
 ]
 
--- the tokens are items, or don't go on at a place; of those after the ones that were read there are so many at most
+-- the tokens are items, or don't go on at an index; of those after the ones that were read there are so many at most
 pub reach : (ts : List Lexeme) (left at : ℕ) (is : List Item) → length ts ≤ at + left → Greedy ts is (drop at ts)
     → ((js : List Item) × Items ts js) ⊎ ((s : ℕ) × IsStuckAt ts s)
 reach ts zero at is l p = inl (is, greedy_all ts is at (omega (arith, l)) p)
@@ -106,7 +106,7 @@ reach ts (suc left) at is l p = elim (cases_lt at (length ts)) [
   ]
 ]
 
--- the first of those before a place, or none is there
+-- the first of those before an index, or none is there
 abbrev HasFirst : List Lexeme → ℕ → Type 0
 HasFirst ts n = ((i : ℕ) × (i < n) × IsLargeNegative ts i × ((k : ℕ) → k < i → IsLargeNegative ts k → ⊥))
     ⊎ ((k : ℕ) → k < n → IsLargeNegative ts k → ⊥)

@@ -40,7 +40,7 @@ abbrev pub is_comma : Class → Bool
 is_comma (the_mark b) = b == 44
 is_comma c = false
 
--- at some place no token fits both, or the longer one goes on with a comma
+-- at some index no token fits both, or the longer one goes on with a comma
 abbrev pub apart : List Class → List Class → Bool
 apart [] [] = false
 apart [] (d ∷ ds) = is_comma d
@@ -213,11 +213,11 @@ nothing : (ts f r : List Lexeme) (i : Item) → ts ≡ [] → ts ≡ f ++ r → 
 nothing ts [] r i e h form = no_classes form.count i.row form.row form.fits
 nothing ts (t ∷ f) r i e h form = let k : [] ≡ t ∷ (f ++ r) = sym e ∙ h in cc
 
-pub one_reading : (ts : List Lexeme) (is js : List Item) → Items ts is → Items ts js → is ≡ js
-one_reading ts [] [] p q = refl
-one_reading ts [] (j ∷ js) p q = absurd (nothing ts q.0 q.1 j p q.2 q.3)
-one_reading ts (i ∷ is) [] p q = absurd (nothing ts p.0 p.1 i q p.2 p.3)
-one_reading ts (i ∷ is) (j ∷ js) p q =
+pub one_item_list : (ts : List Lexeme) (is js : List Item) → Items ts is → Items ts js → is ≡ js
+one_item_list ts [] [] p q = refl
+one_item_list ts [] (j ∷ js) p q = absurd (nothing ts q.0 q.1 j p q.2 q.3)
+one_item_list ts (i ∷ is) [] p q = absurd (nothing ts p.0 p.1 i q p.2 p.3)
+one_item_list ts (i ∷ is) (j ∷ js) p q =
     elim (readings_apart p.3.count q.3.count i.row j.row p.3.row q.3.row) [
       | inl e ↦
           let ce : classes_of p.3.count i.row ≡ classes_of q.3.count j.row =
@@ -226,7 +226,7 @@ one_reading ts (i ∷ is) (j ∷ js) p q =
           subst (λ cs. fits_all cs q.0 ≡ true) (sym ce) q.3.fits in
           let both = same_front (classes_of p.3.count i.row) p.0 p.1 q.0 q.1 p.3.fits fits' (sym p.2 ∙ q.2) in
           let hd : i ≡ j = same_item p.0 q.0 i j both.0 p.3 q.3 e.0 e.1 in
-          let tl : is ≡ js = one_reading p.1 is js p.4 (subst (λ r. Items r js) (sym both.1) q.4) in
+          let tl : is ≡ js = one_item_list p.1 is js p.4 (subst (λ r. Items r js) (sym both.1) q.4) in
           λ k. hd k ∷ tl k
       | inr a ↦
           let none = begins_none i.row p.3.row in

@@ -59,7 +59,7 @@ misfit_step : (t : Bool) (k n : ℕ) → k ≤ n → cond t (1 + k) 0 ≤ suc n
 misfit_step true k n l = omega (arith, l)
 misfit_step false k n l = omega arith
 
--- where the token at a place does not fit, no more than those before it do
+-- where the token at an index does not fit, no more than those before it do
 pub misfit_common : {X Y : Type 0} (p : X → Y → Bool) (xs : List X) (ys : List Y) (n : ℕ) (c : X) (d : Y)
     → n < length xs → n < length ys → p (get_or xs n c) (get_or ys n d) ≡ false → common_prefix_len p xs ys ≤ n
 misfit_common p (x ∷ xs) (y ∷ ys) zero c d l m e = rw e (omega arith)

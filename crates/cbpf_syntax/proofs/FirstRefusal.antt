@@ -21,7 +21,7 @@ use Rattle.cbpf_syntax.proofs.Answered.{reach, first_large}
 use Rattle.cbpf_syntax.proofs.Taking.{place_left, place_right, large_left}
 use Rattle.std.proofs.Common.{◌++◌, length-append}
 
--- Where the tokens begin items up to a place, and no literal before one is too large, nothing is refused before that.
+-- Where the tokens begin items up to an index, and no literal before one is too large, nothing is refused before that.
 not_before : (ts : List Lexeme) (s i : ℕ) → BeginsItems (take s ts) → i ≤ s → s ≤ length ts
     → ((k : ℕ) → k < i → IsLargeNegative ts k → ⊥) → (other : ParseFault) (q : ℕ) → IsRefusedAt ts other q → i ≤ q
 not_before ts s i b l w none Misplaced q r = elim (cases_lt q s) [
@@ -116,19 +116,19 @@ pub each_shown : (ts : List Lexeme) (f : ParseFault) (p : ℕ) → IsFirstRefusa
 each_shown [] f p r = absurd (items_accepted [] [] refl (λ k h. omega (arith, large_within [] k h)) f p r.refused)
 each_shown (t ∷ ts) f p r =
     let some = slice_get-get_or (t ∷ ts) (min p (length (t ∷ ts) - 1)) t (omega arith) in
-    (_, record { place = p; first = r; shown = ap (option_map (λ (u : Lexeme). u.at)) some })
+    (_, record { index = p; first = r; shown = ap (option_map (λ (u : Lexeme). u.at)) some })
 
 pub one_shown : (ts : List Lexeme) (f g : ParseFault) (m n : ℕ) → IsRefusedFor ts f m → IsRefusedFor ts g n
     → (f ≡ g) × (m ≡ n)
 one_shown ts f g m n a b =
-    let e = one_refusal ts f g a.place b.place a.first b.first in
+    let e = one_refusal ts f g a.index b.index a.first b.first in
     (e.0, some-same m n (sym (subst (λ p. IsPlaceOf ts (min p (length ts - 1)) m) e.1 a.shown) ∙ b.shown))
 
--- a refusal that is shown by the token at its place
+-- a refusal that is shown by the token at its index
 shown_there : (ts : List Lexeme) (f : ParseFault) (p at : ℕ) → p < length ts → IsFirstRefusal ts f p
     → IsPlaceOf ts p at → IsRefusedFor ts f at
 shown_there ts f p at l r place =
-    let e : min p (length ts - 1) ≡ p = omega arith in record { place = p; first = r; shown = rw e place }
+    let e : min p (length ts - 1) ≡ p = omega arith in record { index = p; first = r; shown = rw e place }
 
 pub refused_large : (us vs : List Lexeme) (at : ℕ) → IsStuckAt (us ++ vs) (length us) → IsFirstLarge us (Some at)
     → IsRefusedFor (us ++ vs) LargeNegative at
@@ -168,7 +168,7 @@ refused_unfinished us [] at e place stuck none =
     let last : min (length us) (length us - 1) ≡ length us - 1 = omega arith in
     let whole : IsStuckAt us (length us) = rw append-nil at stuck in
     rw append-nil (record {
-      place = length us;
+      index = length us;
       first = unfinished_first us (length us) whole refl (λ k b. none k);
       shown = rw last (place (stuck_some us (length us) whole));
     })

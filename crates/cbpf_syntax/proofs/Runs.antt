@@ -10,7 +10,7 @@ use Rattle.cbpf_syntax.specs.declared.piece.PieceKind.TheVariants.{Blanks, Comme
 use Rattle.cbpf_syntax.specs.declared.token.Kind.TheVariants.{Word, Mark}
 use Rattle.cbpf_code.specs.WordTokens.{is_blank}
 use Rattle.cbpf_syntax.specs.Bytes.{is_name_byte}
-use Rattle.cbpf_syntax.specs.Pieces.{IsNext, piece_kind, led_kind, slash_kind, only_if, run_kind, alone, has_close}
+use Rattle.cbpf_syntax.specs.Pieces.{IsNext, piece_kind, led_kind, slash_kind, only_if, numeral_kind, alone, has_close}
 use Rattle.cbpf_syntax.specs.Pieces.{is_line_blank, close_after, comment_piece, slash_piece, led_piece}
 use Rattle.cbpf_syntax.specs.Leads.{lead_of}
 use Rattle.cbpf_syntax.proofs.LeadTable.{blank_lead}
@@ -149,7 +149,7 @@ led_next fresh b bs LineComment e =
 led_next fresh b bs Letter e =
     run_next fresh is_name_byte (λ _. TokenOf Word) b bs (λ cs. ap (λ l. led_kind l b cs) e)
 led_next fresh b bs Digit e =
-    run_next fresh is_name_byte (λ cs. run_kind (b ∷ cs)) b bs (λ cs. ap (λ l. led_kind l b cs) e)
+    run_next fresh is_name_byte (λ cs. numeral_kind (b ∷ cs)) b bs (λ cs. ap (λ l. led_kind l b cs) e)
 led_next fresh b bs Slash e = slash_next fresh b e bs
 led_next fresh b bs Single e = alone_next fresh (TokenOf (Mark b)) b bs (λ cs. ap (λ l. led_kind l b cs) e)
 led_next fresh b bs Other e = alone_next fresh (Bad NoToken) b bs (λ cs. ap (λ l. led_kind l b cs) e)

@@ -19,7 +19,7 @@ use Rattle.cbpf_syntax.specs.declared.piece.Piece.{Piece}
 use Rattle.cbpf_code.specs.WordTokens.{is_blank, is_digit}
 use Rattle.cbpf_syntax.specs.Bytes.{is_letter, is_name_byte, is_mark}
 use Rattle.cbpf_syntax.specs.Numbers.{number_value}
-use Rattle.cbpf_syntax.specs.Pieces.{IsNext, IsPieceAt, IsCut, is_line_blank, run_kind}
+use Rattle.cbpf_syntax.specs.Pieces.{IsNext, IsPieceAt, IsCut, is_line_blank, numeral_kind}
 use Rattle.cbpf_syntax.specs.Leads.{lead_of}
 use Rattle.cbpf_syntax.specs.Tokens.{Lexes, tokens_of, is_good}
 use Rattle.cbpf_syntax.proofs.Runs.{led_next}
@@ -144,9 +144,9 @@ segment_next fresh (number b bs n) ss a ok k =
     let t : take (length bs) (bs ++ text_of ss) ≡ bs = take_at bs (text_of ss) (length bs) refl in
     let f : nat_lt n (2 ^ 32) ≡ true = lt-ltb n (2 ^ 32) a.4 in
     let next :
-    IsNext fresh (b ∷ (bs ++ text_of ss)) (record { kind = run_kind (b ∷ bs); size = 1 + length bs }) =
+    IsNext fresh (b ∷ (bs ++ text_of ss)) (record { kind = numeral_kind (b ∷ bs); size = 1 + length bs }) =
     rw (e, t) at (led_next fresh b (bs ++ text_of ss) Digit (lead_any fresh is_digit Digit b refl refl a.0 a.1)) in
-    let v : run_kind (b ∷ bs) ≡ TokenOf (Number n) = rw (a.3, f) refl in
+    let v : numeral_kind (b ∷ bs) ≡ TokenOf (Number n) = rw (a.3, f) refl in
     subst (λ q. IsNext fresh (b ∷ (bs ++ text_of ss)) (record { kind = q; size = 1 + length bs })) v next
 segment_next fresh (mark b) ss a ok k = led_next fresh b (text_of ss) Single
     (lead_mark fresh b a.0 a.1 (not-true (fresh && b == 35) (and_parts (not (fresh && b == 35)) _ k).0))

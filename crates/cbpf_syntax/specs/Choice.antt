@@ -14,7 +14,7 @@ use Rattle.cbpf_syntax.specs.Views.{row_of}
 abbrev pub common : List Class → List Lexeme → ℕ
 common cs ts = common_prefix_len (λ c (t : Lexeme). fits c t.symbol) cs ts
 
--- the token at a place is a comma
+-- the token at an index is a comma
 abbrev pub is_comma_at : List Lexeme → ℕ → Bool
 is_comma_at [] i = false
 is_comma_at (t ∷ ts) zero = fits (the_mark 44) t.symbol

@@ -1,12 +1,12 @@
 -- Laws of the forms of `Table` (of the kernel's Documentation/networking/filter, and this project's own): a token list
--- has one reading or one first refusal.
+-- is one list of items or has one first refusal.
 use Rattle.std.specs.Prelude.{◌≡◌, ◌⊎◌, ℕ, List}
 use Rattle.cbpf_syntax.specs.Lexemes.{Lexeme}
 use Rattle.cbpf_syntax.specs.Items.{Item, Items}
 use Rattle.cbpf_syntax.specs.Refusals.{ParseFault, IsFirstRefusal, IsAccepted}
 
-abbrev pub OneReading : Type 0
-OneReading = (ts : List Lexeme) (is js : List Item) → Items ts is → Items ts js → is ≡ js
+abbrev pub OneItemList : Type 0
+OneItemList = (ts : List Lexeme) (is js : List Item) → Items ts is → Items ts js → is ≡ js
 
 abbrev pub OneRefusal : Type 0
 OneRefusal = (ts : List Lexeme) (f g : ParseFault) (p q : ℕ) → IsFirstRefusal ts f p → IsFirstRefusal ts g q

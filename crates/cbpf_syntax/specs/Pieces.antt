@@ -32,9 +32,9 @@ abbrev pub number_kind : Option ℕ → PieceKind
 number_kind None = Bad NoToken
 number_kind (Some n) = if nat_lt n number_limit then TokenOf (Number n) else Bad LargeNumber
 
--- a run that begins with a digit: a number, where it spells one below the limit
-abbrev pub run_kind : List ℕ → PieceKind
-run_kind run = number_kind (number_value run)
+-- a numeral, which is a run of name bytes that begins with a digit: a number, where it spells one below the limit
+abbrev pub numeral_kind : List ℕ → PieceKind
+numeral_kind bytes = number_kind (number_value bytes)
 
 -- the bytes begin with `*/`
 abbrev pub begins_with_close : List ℕ → Bool
@@ -61,7 +61,7 @@ abbrev pub led_kind : Lead → ℕ → List ℕ → Option PieceKind
 led_kind Blank b bs = only_if (list_all is_blank bs) Blanks
 led_kind LineComment b bs = only_if (list_all (λ c. not (c == 10)) bs) Comment
 led_kind Letter b bs = only_if (list_all is_name_byte bs) (TokenOf Word)
-led_kind Digit b bs = only_if (list_all is_name_byte bs) (run_kind (b ∷ bs))
+led_kind Digit b bs = only_if (list_all is_name_byte bs) (numeral_kind (b ∷ bs))
 led_kind Slash b bs = slash_kind bs
 led_kind Single b bs = alone bs (TokenOf (Mark b))
 led_kind Other b bs = alone bs (Bad NoToken)
@@ -109,7 +109,7 @@ led_piece Blank b bs = record { kind = Blanks; size = 1 + prefix_len is_blank bs
 led_piece LineComment b bs = record { kind = Comment; size = 1 + prefix_len (λ c. not (c == 10)) bs }
 led_piece Letter b bs = record { kind = TokenOf Word; size = 1 + prefix_len is_name_byte bs }
 led_piece Digit b bs = record {
-  kind = run_kind (b ∷ take (prefix_len is_name_byte bs) bs);
+  kind = numeral_kind (b ∷ take (prefix_len is_name_byte bs) bs);
   size = 1 + prefix_len is_name_byte bs;
 }
 led_piece Slash b bs = slash_piece bs

@@ -18,7 +18,7 @@ pub data ParseFault : Type 0 where
 abbrev pub symbol_at : List Lexeme → ℕ → Option Symbol
 symbol_at ts i = option_map (λ (t : Lexeme). t.symbol) (slice_get ts i)
 
--- A4: the tokens before the one at the place begin items, and with it they don't
+-- A4: the tokens before the one at the index begin items, and with it they don't
 pub record IsMisplaced (ts : List Lexeme) (i : ℕ) : Type 0 where
   pub within : i < length ts
   pub before : BeginsItems (take i ts)
@@ -47,7 +47,7 @@ pub record IsUnfinished (ts : List Lexeme) : Type 0 where
   pub begins : BeginsItems ts
   pub none : (items : List Item) → Items ts items → ⊥
 
--- the tokens begin items up to the place, and with the next token,
+-- the tokens begin items up to the index, and with the next token,
 -- or where there is none as a whole, they don't go on
 pub record IsStuckAt (ts : List Lexeme) (i : ℕ) : Type 0 where
   pub within : i ≤ length ts
@@ -55,16 +55,16 @@ pub record IsStuckAt (ts : List Lexeme) (i : ℕ) : Type 0 where
   pub next : i < length ts → BeginsItems (take (i + 1) ts) → ⊥
   pub end : i ≡ length ts → (items : List Item) → Items ts items → ⊥
 
--- the tokens are refused for this at the place, which is their number where it is their end
+-- the tokens are refused for this at the index, which is their number where it is their end
 abbrev pub IsRefusedAt : List Lexeme → ParseFault → ℕ → Type 0
-IsRefusedAt ts Misplaced place = IsMisplaced ts place
-IsRefusedAt ts LargeNegative place = IsLargeNegative ts place
-IsRefusedAt ts Unfinished place = (place ≡ length ts) × IsUnfinished ts
+IsRefusedAt ts Misplaced i = IsMisplaced ts i
+IsRefusedAt ts LargeNegative i = IsLargeNegative ts i
+IsRefusedAt ts Unfinished i = (i ≡ length ts) × IsUnfinished ts
 
--- and no refusal has an earlier place
-pub record IsFirstRefusal (ts : List Lexeme) (fault : ParseFault) (place : ℕ) : Type 0 where
-  pub refused : IsRefusedAt ts fault place
-  pub first : (other : ParseFault) (q : ℕ) → IsRefusedAt ts other q → place ≤ q
+-- and no refusal has an earlier index
+pub record IsFirstRefusal (ts : List Lexeme) (fault : ParseFault) (i : ℕ) : Type 0 where
+  pub refused : IsRefusedAt ts fault i
+  pub first : (other : ParseFault) (j : ℕ) → IsRefusedAt ts other j → i ≤ j
 
 -- the token with the index stands at this place in the text
 abbrev pub IsPlaceOf : List Lexeme → ℕ → ℕ → Type 0
@@ -73,9 +73,9 @@ IsPlaceOf ts i at = option_map (λ (t : Lexeme). t.at) (slice_get ts i) ≡ Some
 -- the first refusal of tokens, with the place in the text of the token that shows it:
 -- the one that is refused, or the last one where that is their end
 pub record IsRefusedFor (ts : List Lexeme) (fault : ParseFault) (at : ℕ) : Type 0 where
-  pub place : ℕ
-  pub first : IsFirstRefusal ts fault place
-  pub shown : IsPlaceOf ts (min place (length ts - 1)) at
+  pub index : ℕ
+  pub first : IsFirstRefusal ts fault index
+  pub shown : IsPlaceOf ts (min index (length ts - 1)) at
 
 -- a refusal as it is reported
 abbrev pub reported_at : ParseFault → ℕ → SyntaxFault
@@ -85,4 +85,4 @@ reported_at Unfinished = reported.Unfinished
 
 -- the tokens are refused for nothing
 abbrev pub IsAccepted : List Lexeme → Type 0
-IsAccepted ts = (fault : ParseFault) (place : ℕ) → IsRefusedAt ts fault place → ⊥
+IsAccepted ts = (fault : ParseFault) (i : ℕ) → IsRefusedAt ts fault i → ⊥

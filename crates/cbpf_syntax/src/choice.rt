@@ -148,13 +148,13 @@ fn first_form(mnemonic: &Mnemonic, entry: &TableEntry, tokens: &[Lexeme<'_>]) ->
     match_row(make_row(mnemonic, entry, forms(entry.mode)[0]), tokens)
 }
 
-/// Whether the token at a place is a comma.
+/// Whether the token at an index is a comma.
 #[inline(always)]
 #[tactic(auto, using(crate::proofs::Final::comma_at, crate::proofs::Final::none_after))]
-fn is_comma_at(tokens: &[Lexeme<'_>], at: usize) -> bool
-    ensures { result ≡ is_comma_at (map lexeme_of tokens.now) at }
+fn is_comma_at(tokens: &[Lexeme<'_>], i: usize) -> bool
+    ensures { result ≡ is_comma_at (map lexeme_of tokens.now) i }
 {
-    at < tokens.len() && fits(Class::Mark(b','), tokens[at].symbol)
+    i < tokens.len() && fits(Class::Mark(b','), tokens[i].symbol)
 }
 
 /// Whether no other row of the table has as many tokens that fit: all of this row fits, and a

@@ -1,11 +1,11 @@
 //! Laws of the definitions, which hold whatever a program does.
 
-ghost use Rattle.cbpf_syntax.specs.Laws.{OneReading, OneRefusal, EachParsed};
+ghost use Rattle.cbpf_syntax.specs.Laws.{OneItemList, OneRefusal, EachParsed};
 
 /// A token list is at most one list of items.
-#[tactic(auto, using(crate::proofs::Apart::one_reading))]
-pub fn one_reading()
-    ensures { OneReading }
+#[tactic(auto, using(crate::proofs::Apart::one_item_list))]
+pub fn one_item_list()
+    ensures { OneItemList }
 {}
 
 /// A token list has one first refusal, or it is items and has none.

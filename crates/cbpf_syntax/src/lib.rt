@@ -28,7 +28,7 @@ pub use class::Class;
 pub use cut_law::{one_cut, one_outcome};
 pub use equality::equal_where_same;
 pub use item::Row;
-pub use law::{one_reading, one_refusal};
+pub use law::{one_item_list, one_refusal};
 pub use lexeme::{Lexeme, Symbol};
 pub use lexer::{Lexer, line_of, tokens};
 pub use reader::{Reader, Step, SyntaxFault};

@@ -54,7 +54,7 @@ fn some_digits_value(base: u64, bytes: &[u8]) -> Option<u64>
     digits_value(base, 0, bytes)
 }
 
-/// The number that a run of bytes spells, at most `LIMIT`.
+/// The number that a numeral spells, at most `LIMIT`.
 pub(crate) fn number_value(first: u8, rest: &[u8]) -> Option<u64>
     ensures { IsCapped result (number_value (first ∷ rest.now)) }
 {

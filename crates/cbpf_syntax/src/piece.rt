@@ -1,7 +1,7 @@
 //! The piece at the front of a text: blanks, a comment, a token, or a bad piece.
 
 ghost use Rattle.std.specs.Prelude.{true, false, IfSome, IfNone, ◌∷◌, ◌&&◌, ◌==◌, ◌≡◌, ◌≤◌, length};
-ghost use Rattle.cbpf_syntax.specs.Pieces.{IsNext, is_line_blank, run_kind, close_after, slash_piece};
+ghost use Rattle.cbpf_syntax.specs.Pieces.{IsNext, is_line_blank, numeral_kind, close_after, slash_piece};
 ghost use Rattle.cbpf_syntax.specs.Leads.{lead_of};
 ghost use Rattle.cbpf_syntax.specs.Tokens.{is_good};
 ghost use Rattle.cbpf_syntax.specs.declared.piece.PieceKind.TheVariants.{Bad};
@@ -104,10 +104,10 @@ fn close_len(body: &[u8]) -> Option<usize>
     None
 }
 
-/// The kind of a run of bytes that begins with a digit.
+/// The kind of a numeral, a run of name bytes that begins with a digit.
 #[inline(always)]
-fn run_kind(first: u8, rest: &[u8]) -> PieceKind
-    ensures { result ≡ run_kind (first ∷ rest.now) }
+fn numeral_kind(first: u8, rest: &[u8]) -> PieceKind
+    ensures { result ≡ numeral_kind (first ∷ rest.now) }
 {
     match number_value(first, rest) {
         None => PieceKind::Bad(BadPiece::NoToken),
@@ -165,7 +165,7 @@ pub(crate) fn next_piece(before: &[u8], first: u8, rest: &[u8]) -> Piece
         Lead::Digit => {
             let n = name_len(rest);
             Piece {
-                kind: run_kind(first, &rest[..n]),
+                kind: numeral_kind(first, &rest[..n]),
                 size: 1 + n,
             }
         }

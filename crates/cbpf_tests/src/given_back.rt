@@ -1,20 +1,19 @@
-//! What was asked for of an allocator is given back: by loads that take the place of others, by refused loads,
-//! by breakpoints that are set and taken out, and by what is dropped.
+//! Loads and commands give back what they asked for: loads that take the place of others, refused loads, breakpoints
+//! that are set and taken out, and what is dropped.
+
+mod indexes;
+mod rooms;
 
 use crate::assertions::{Test, assert_named};
 use crate::fault_injection::{Fault, FaultyAllocator, FaultyWriter};
 use crate::inputs::{
-    ARP, ARP_WORDS, HEADER, ICMP_WORDS, RECORD, STRAIGHT, program_of, repeated, two_packets,
-    two_packets_as_k,
+    ARP, ARP_WORDS, HEADER, ICMP_WORDS, RECORD, STRAIGHT, program_of, two_packets, two_packets_as_k,
 };
-use crate::why::{ARP_REPORTS, report_in};
 use cbpf_code::{check, read_words};
 use cbpf_dbg::{ListTrail, MarkTrail, Session, Trail, When};
-use cbpf_machine::Tally;
 use cbpf_text::{assemble, tokens};
 use cbpf_tool::{DiskFiles, Files, Form, ToolFault, asm, debug};
-use cbpf_why::Report;
-use pcap_classic::{Capture, CaptureReader};
+use pcap_classic::Capture;
 use std::alloc::{Allocator, Global};
 use std::io;
 use std::io::Read;
@@ -282,172 +281,4 @@ fn after_a_last_flush_that_failed(rt: HostRuntime) {
         assert!(rt; answer == Err(ToolFault::Write) && writer.flushes() > 0);
         assert!(rt; counting.asked() > 0 && counting.held() == 0);
     }
-}
-
-/// The number of records of a capture, and the bytes that its index asks for, and those that it holds. It has room for
-/// the starts of four records, of 8 bytes each, and then for twice as many each time.
-static INDEXES: [(u32, u64, u64); 10] = [
-    (0, 0, 0),
-    (1, 32, 32),
-    (64, 32, 32),
-    (65, 32, 32),
-    (256, 32, 32),
-    (257, 96, 64),
-    (512, 96, 64),
-    (513, 224, 128),
-    (3000, 992, 512),
-    (8192, 2016, 1024),
-];
-
-/// What an index asks for and holds, over the bytes of `alloc`, which `counting` counts.
-fn index_of<A: Allocator + Copy>(
-    rt: &impl Abort,
-    alloc: A,
-    counting: &FaultyAllocator<Global>,
-    bytes: &[u8],
-) -> (u64, u64) {
-    let bytes = Vec::from_slice(alloc, bytes).expect(rt, "the bytes");
-    let (asked, held) = (counting.asked(), counting.held());
-    let capture = Capture::from_bytes(alloc, bytes)
-        .ok()
-        .expect(rt, "the capture");
-    assert!(rt; capture.count() < 10000);
-    (
-        counting.asked().saturating_sub(asked),
-        counting.held().saturating_sub(held),
-    )
-}
-
-#[test]
-fn room_for_the_index_of_a_capture(rt: HostRuntime) {
-    for (records, asked, held) in INDEXES.iter() {
-        let counting = FaultyAllocator::new(rt.alloc(), 0);
-        let bytes = repeated(&rt, HEADER, RECORD, *records, b"");
-        let found = index_of(&rt, &counting, &counting, &bytes);
-        let is_wanted = found == (*asked, *held);
-        assert_named(&rt, is_wanted, "the bytes of the index", *records);
-        assert_named(&rt, counting.held() == 0, "held", *records);
-    }
-}
-
-#[test]
-fn room_for_a_list_of_states(rt: HostRuntime) {
-    let counting = FaultyAllocator::new(rt.alloc(), 0);
-    let trail = ListTrail::new(&counting).expect(&rt, "the trail");
-    // 4096 states of 80 bytes.
-    assert!(rt; counting.asked() == 327680 && counting.held() == 327680);
-    drop(trail);
-    assert!(rt; counting.held() == 0);
-}
-
-#[test]
-fn room_for_a_tally(rt: HostRuntime) {
-    let p = program_of(rt.alloc(), STRAIGHT).expect(&rt, "the program");
-    let counting = FaultyAllocator::new(rt.alloc(), 0);
-    let tally = Tally::new(&counting, &p).expect(&rt, "the tally");
-    // 16 bytes for each of 21 instructions.
-    assert!(rt; counting.asked() == 336 && counting.held() == 336);
-    drop(tally);
-    assert!(rt; counting.held() == 0);
-}
-
-/// What a report on a capture asks for, beside the capture's reader and the text. It is given back.
-fn room_of_report(rt: &impl Test, report: Report, file: &[u8]) -> u64 {
-    let counting = FaultyAllocator::new(rt.alloc(), 0);
-    let mut reader = CaptureReader::new(rt.alloc(), file)
-        .ok()
-        .expect(rt, "the capture");
-    let mut text = Vec::new(rt.alloc());
-    let answer = report_in(
-        rt,
-        &counting,
-        (ARP, None, report),
-        &[],
-        &mut reader,
-        &mut text,
-    );
-    assert!(rt; answer.is_ok() && counting.held() == 0);
-    counting.asked()
-}
-
-#[test]
-fn room_for_a_report(rt: HostRuntime) {
-    let file = repeated(&rt, HEADER, RECORD, 3000, b"");
-    for (report, _, _) in &ARP_REPORTS {
-        let room = room_of_report(&rt, *report, &file);
-        // Three groups of 40 bytes for each of 4 instructions, 16 bytes for how often it ran, and where blocks begin.
-        let is_wanted = room_of_report(&rt, *report, HEADER) == room && room <= 4 * 138;
-        assert_named(&rt, is_wanted, "the room of a report", *report);
-    }
-}
-
-/// The bytes that breakpoints at all instructions of a session take.
-#[derive(Clone, Copy)]
-struct Room {
-    breakpoints: u64,
-    /// What the first one asks for.
-    first: u64,
-    /// What they all ask for.
-    asked: u64,
-    held: u64,
-}
-
-/// Sets a breakpoint at each instruction: how many there are.
-fn set_all<T: Trail, A: Allocator + Copy>(session: &mut Session<T, A>) -> u64 {
-    for n in 0..4096u64 {
-        if session.breakpoint(n) != Ok(()) {
-            return n;
-        }
-    }
-    4096
-}
-
-/// Sets a breakpoint at each instruction of a session, whose bytes `counting` counts.
-fn room_of<T: Trail, A: Allocator + Copy>(
-    rt: &impl Abort,
-    session: &mut Session<T, A>,
-    counting: &FaultyAllocator<Global>,
-) -> Room {
-    let (asked, held) = (counting.asked(), counting.held());
-    assert!(rt; session.breakpoint_when(0, When::A(7)) == Ok(()));
-    let first = counting.asked().saturating_sub(asked);
-    let breakpoints = set_all(session);
-    Room {
-        breakpoints,
-        first,
-        asked: counting.asked().saturating_sub(asked),
-        held: counting.held().saturating_sub(held),
-    }
-}
-
-/// Room for conditions of 8 bytes an instruction, and for a table that doubles.
-fn is_bounded(room: &Room) -> bool {
-    let conditions = room.breakpoints.saturating_mul(8).saturating_add(320);
-    let held = conditions.saturating_add(room.breakpoints.saturating_mul(48));
-    let asked = conditions.saturating_add(room.breakpoints.saturating_mul(80));
-    room.first <= conditions && room.held <= held && room.asked <= asked
-}
-
-fn assert_room<A: Allocator + Copy>(
-    rt: &impl Abort,
-    alloc: A,
-    counting: &FaultyAllocator<Global>,
-    words: &[u8],
-) {
-    let mut session = Session::new(alloc, MarkTrail::new());
-    session.load_program(program_of(alloc, words).expect(rt, "the program"));
-    let room = room_of(rt, &mut session, counting);
-    let count = session.breakpoint_count() as u64;
-    let is_wanted = room.breakpoints == count && is_bounded(&room);
-    assert_named(rt, is_wanted, "the room of breakpoints", count);
-}
-
-#[test]
-fn room_for_breakpoints(rt: HostRuntime) {
-    let counting = FaultyAllocator::new(rt.alloc(), 0);
-    assert_room(&rt, &counting, &counting, b"1,6 0 0 1");
-    assert_room(&rt, &counting, &counting, STRAIGHT);
-    let longest = repeated(&rt, b"4096,", b"7 0 0 0,", 4095, b"6 0 0 1");
-    assert_room(&rt, &counting, &counting, &longest);
-    assert!(rt; counting.held() == 0);
 }

@@ -55,12 +55,7 @@ fn only(alloc: Global, p: &Program, watched: u32) -> Watched
 }
 
 /// Keeps the first `count` entries of a packet's trace, of which it returns the last.
-fn fill<T: Trail>(
-    rt: &impl Abort,
-    trail: &mut T,
-    task: &Task<'_>,
-    count: u32,
-) -> State
+fn fill<T: Trail>(rt: &impl Abort, trail: &mut T, task: &Task<'_>, count: u32) -> State
     requires from_one { 1 ≤ count }
     requires few { count ≤ 4096 }
     ensures last { slice_get (entries_in task.now) (count - 1) ≡ Some result }

@@ -2,16 +2,16 @@
 use Rattle.std.proofs.Common.{rules, ◌≡◌, refl, sym, subst, ℕ, List, ◌∙◌, ap, suc, ◌+◌, ◌<◌, ◌≤◌, Bool, true, false, []}
 use Rattle.std.proofs.Common.{◌∷◌, ◌++◌, length, map, take, drop, get_or, Option, Some, None, arith, append_assoc}
 use Rattle.std.proofs.Common.{append-nil, length-append}
+use Rattle.cbpf_syntax.specs.Tokens.{line_of}
 use Rattle.cbpf_syntax.specs.Refusals.{ParseFault, IsAccepted, IsStuckAt, IsRefusedFor}
 use Rattle.cbpf_syntax.specs.Lexemes.{Lexeme, AreLexemes}
 use Rattle.cbpf_syntax.specs.Items.{Item, Items}
 use Rattle.cbpf_code.specs.declared.insn.Insn.{Insn}
 use Rattle.cbpf_text.specs.declared.fault.AsmFault.{AsmFault}
-use Rattle.cbpf_text.specs.declared.placed_fault.PlacedFault.{PlacedFault}
 use Rattle.cbpf_text.specs.declared.fault.AsmKind.{AsmKind}
 use Rattle.cbpf_text.specs.Labels.{labels_from}
 use Rattle.cbpf_text.specs.Assembled.{insns_from, AssembleTokens}
-use Rattle.cbpf_text.specs.Refusals.{items_fault, Reported, IsTokensFault, IsRefused, IsLexRefused, IsReportedAt}
+use Rattle.cbpf_text.specs.Refusals.{items_fault, ReportedIn, IsTokensFault, IsRefused, IsLexRefused}
 use Rattle.cbpf_text.specs.Refusals.{grammar_kind}
 use Rattle.cbpf_text.specs.Refusals.IsTokensFault.{of_grammar, of_items}
 use Rattle.cbpf_text.specs.Refusals.IsTextFault.{of_piece, of_tokens}
@@ -33,7 +33,6 @@ use Rattle.cbpf_syntax.proofs.FirstRefusal.{large_refused}
 use Rattle.cbpf_text.specs.declared.name.Name.{Name}
 use Rattle.cbpf_text.specs.declared.draft.Statement.{Statement}
 use Rattle.cbpf_text.specs.Drafts.{AreSet, IsKept, IsDraft}
-use Rattle.cbpf_text.specs.declared.placed_fault.PlacedFault.TheVariants as placed
 use Rattle.cbpf_syntax.specs.declared.lexeme.Lexeme as declared_lexeme
 use Rattle.cbpf_syntax.specs.declared.item.Row as declared_row
 use Rattle.cbpf_text.specs.declared.fault.AsmKind.TheVariants as kinds
@@ -56,20 +55,19 @@ lex_refused text (faults.At kind line) h = rw h.1 (of_piece h.0 line h.2)
 
 -- the refusal of the text's tokens is the text's
 pub tokens_refused : (text : List ℕ) (ts : List Lexeme) (kind : AsmKind) (at : ℕ) (fault : AsmFault)
-    → AreLexemes text ts → IsTokensFault ts kind at → IsReportedAt text (placed.At kind at) fault → IsRefused text fault
+    → AreLexemes text ts → IsTokensFault ts kind at → fault ≡ faults.At kind (line_of text at) → IsRefused text fault
 tokens_refused text ts kind at fault t h e =
     rw e (of_tokens t.tokens kind at t.lexed (subst (λ us. IsTokensFault us kind at) t.are h))
 
-pub items_refused : (text : List ℕ) (ts : List Lexeme) (is : List Item) (r : PlacedFault) (fault : AsmFault)
-    → AreLexemes text ts → Items ts is → IsAccepted ts → Reported (items_fault is) r → IsReportedAt text r fault
-    → IsRefused text fault
-items_refused text ts is placed.Memory fault t p a h e = rw e tt
-items_refused text ts is (placed.At kind at) fault t p a h e =
-    tokens_refused text ts kind at fault t (of_items is kind at p a h) e
+pub items_refused : (text : List ℕ) (ts : List Lexeme) (is : List Item) (fault : AsmFault)
+    → AreLexemes text ts → Items ts is → IsAccepted ts → ReportedIn text (items_fault is) fault → IsRefused text fault
+items_refused text ts is faults.Memory t p a h = tt
+items_refused text ts is (faults.At kind line) t p a h =
+    tokens_refused text ts kind h.0 (faults.At kind line) t (of_items is kind h.0 p a h.1) (rw h.2 refl)
 
 -- the first refusal of the grammar is the text's
 pub grammar_refused : (text : List ℕ) (ts : List Lexeme) (refusal : ParseFault) (at : ℕ) (fault : AsmFault)
-    → AreLexemes text ts → IsRefusedFor ts refusal at → IsReportedAt text (placed.At (grammar_kind refusal) at) fault
+    → AreLexemes text ts → IsRefusedFor ts refusal at → fault ≡ faults.At (grammar_kind refusal) (line_of text at)
     → IsRefused text fault
 grammar_refused text ts refusal at fault t first e =
     tokens_refused text ts (grammar_kind refusal) at fault t (of_grammar refusal at first) e

@@ -16,12 +16,10 @@ use Rattle.cbpf_syntax.specs.Table.{Row, classes, table, mnemonics}
 use Rattle.cbpf_syntax.specs.Items.{Item, Items, IsItem, names_at, label_classes}
 use Rattle.cbpf_syntax.proofs.Elements.{list_all_at}
 use Rattle.cbpf_text.specs.declared.fault.AsmKind.{AsmKind}
-use Rattle.cbpf_text.specs.declared.placed_fault.PlacedFault.{PlacedFault}
-use Rattle.cbpf_text.specs.declared.placed_fault.PlacedFault.TheVariants as placed
 use Rattle.cbpf_text.specs.declared.draft.Target.{Target}
 use Rattle.cbpf_text.specs.declared.draft.Statement.{Statement}
 use Rattle.cbpf_text.specs.Operands.{HasForm, targets_in}
-use Rattle.cbpf_text.specs.Refusals.{Use, is_conditional, use_fault, uses_fault, uses_of, Reported}
+use Rattle.cbpf_text.specs.Refusals.{Use, is_conditional, use_fault, uses_fault, uses_of}
 use Rattle.cbpf_text.specs.Assembled.{offset_of, with_fields, insn_of}
 use Rattle.cbpf_text.specs.Drafts.{KeepsLabel, AreTargets, IsStatement, IsAnswer}
 
@@ -77,9 +75,8 @@ items_forms ts (i ∷ is) p zero d l = let f : IsItem p.0 i = p.3 in
 items_forms ts (i ∷ is) p (suc k) d l = items_forms p.1 is p.4 k d (omega arith)
 
 -- where the first fault is reported, or is none
-pub refused_before : (o p : Option (AsmKind × ℕ)) (r : PlacedFault) → Reported o r → Reported (option_or o p) r
-refused_before o p placed.Memory h = tt
-refused_before o p (placed.At kind at) h = rw h refl
+pub refused_before : (o p : Option (AsmKind × ℕ)) (r : AsmKind × ℕ) → o ≡ Some r → option_or o p ≡ Some r
+refused_before o p r h = rw h refl
 
 -- The targets of a statement, which are its item's: what their offsets say of the item.
 
@@ -87,11 +84,11 @@ abbrev pub use_of : ℕ → Bool → Lexeme → Use
 use_of index short t = record { index = index; target = t; conditional = short }
 
 -- what is answered to a target
-abbrev pub IsOffset : List (Lexeme × ℕ) → ℕ → Bool → Target → Result ℕ PlacedFault → Type 0
+abbrev pub IsOffset : List (Lexeme × ℕ) → ℕ → Bool → Target → Result ℕ (AsmKind × ℕ) → Type 0
 IsOffset ls index short target r = (l : Lexeme) → KeepsLabel target l
     → IsAnswer (use_fault ls (use_of index short l)) (offset_of ls index (Some l)) r
 
-abbrev Answers : List (Lexeme × ℕ) → ℕ → Fields → ℕ → ℕ → List Lexeme → Result Insn PlacedFault → Type 0
+abbrev Answers : List (Lexeme × ℕ) → ℕ → Fields → ℕ → ℕ → List Lexeme → Result Insn (AsmKind × ℕ) → Type 0
 Answers ls index f code k ts r = IsAnswer (uses_fault ls (map (use_of index (is_conditional f)) ts))
     (with_fields f code k (offset_of ls index (slice_get ts 0)) (offset_of ls index (slice_get ts 1))) r
 
@@ -137,14 +134,14 @@ module _ (ls : List (Lexeme × ℕ)) (index code k : ℕ) (n : ℕ) (a b : Targe
       ]
 
   -- the first target is refused, or the second one after it
-  first : (f : Fields) (ts : List Lexeme) (r : PlacedFault) → takes f (length ts) ≡ true → AreTargets n a b ts
+  first : (f : Fields) (ts : List Lexeme) (r : AsmKind × ℕ) → takes f (length ts) ≡ true → AreTargets n a b ts
       → (f ≡ Constant → ⊥) → IsOffset ls index (is_conditional f) a (Err r) → Answers ls index f code k ts (Err r)
   first f (t ∷ []) r e h jumps o = refused_before _ None r (o t h.1)
   first f (t ∷ u ∷ ts) r e h jumps o = refused_before _ _ r (o t h.1)
   first Constant [] r e h jumps o = absurd (jumps refl)
   first f [] r e h jumps o = let z : false ≡ true = e in cc
 
-  second : (ts : List Lexeme) (d : ℕ) (r : PlacedFault) → AreTargets n a b ts → n ≡ 2
+  second : (ts : List Lexeme) (d : ℕ) (r : AsmKind × ℕ) → AreTargets n a b ts → n ≡ 2
       → IsOffset ls index true a (Ok d) → IsOffset ls index true b (Err r) → Answers ls index Branch code k ts (Err r)
   second [] d r h two o p = absurd (omega (arith, h, two))
   second (t ∷ []) d r h two o p = absurd (omega (arith, h.0, two))
@@ -153,10 +150,10 @@ module _ (ls : List (Lexeme × ℕ)) (index code k : ℕ) (n : ℕ) (a b : Targe
 -- the same of an item and its statement
 module _ (ls : List (Lexeme × ℕ)) (index : ℕ) (item : Item) (s : Statement) (h : IsStatement s item)
     (form : HasForm item) where
-  abbrev IsInsn : Result Insn PlacedFault → Type 0
+  abbrev IsInsn : Result Insn (AsmKind × ℕ) → Type 0
   IsInsn r = IsAnswer (uses_fault ls (uses_of index item)) (insn_of ls index item) r
 
-  kept : (f : Fields) (r : Result Insn PlacedFault) → s.fields ≡ f
+  kept : (f : Fields) (r : Result Insn (AsmKind × ℕ)) → s.fields ≡ f
       → (takes f (length (targets_in item)) ≡ true
       → Answers ls index f s.code s.literal (targets_in item) r) → IsInsn r
   kept f r e answers =
@@ -187,12 +184,12 @@ module _ (ls : List (Lexeme × ℕ)) (index : ℕ) (item : Item) (s : Statement)
   two_branch_insn d m e two o p = kept Branch (Ok (record { code = s.code; jt = d; jf = m; k = s.literal })) e (λ t. two_branch ls index s.code s.literal s.targets s.first s.second
       (targets_in item) d m t h.targets two o p)
 
-  pub first_refused : (f : Fields) (r : PlacedFault) → s.fields ≡ f → (f ≡ Constant → ⊥)
+  pub first_refused : (f : Fields) (r : AsmKind × ℕ) → s.fields ≡ f → (f ≡ Constant → ⊥)
       → IsOffset ls index (is_conditional f) s.first (Err r) → IsInsn (Err r)
   first_refused f r e jumps o = kept f (Err r) e (λ t. first ls index s.code s.literal s.targets s.first s.second f
       (targets_in item) r t h.targets jumps o)
 
-  pub second_refused : (d : ℕ) (r : PlacedFault) → s.fields ≡ Branch → s.targets ≡ 2
+  pub second_refused : (d : ℕ) (r : AsmKind × ℕ) → s.fields ≡ Branch → s.targets ≡ 2
       → IsOffset ls index true s.first (Ok d) → IsOffset ls index true s.second (Err r) → IsInsn (Err r)
   second_refused d r e two o p = kept Branch (Err r) e (λ _. second ls index s.code s.literal s.targets s.first s.second
       (targets_in item) d r h.targets two o p)

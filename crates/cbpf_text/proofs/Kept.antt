@@ -32,8 +32,8 @@ none_if (Some x) h = absurd (h x refl)
 
 -- one more label
 pub kept_label : (ss : List Statement) (rep rep2 : Option ℕ) (look look2 : Name → Option ℕ) (is : List Item)
-    (ws : List Lexeme) (word : Lexeme) (place : ℕ) → IsKept ss rep look is ws → place ≡ length ss
-    → ((all : List (Lexeme × ℕ)) → AreSet all rep look → AreSet (all ++ ((word, place) ∷ [])) rep2 look2)
+    (ws : List Lexeme) (word : Lexeme) (index : ℕ) → IsKept ss rep look is ws → index ≡ length ss
+    → ((all : List (Lexeme × ℕ)) → AreSet all rep look → AreSet (all ++ ((word, index) ∷ [])) rep2 look2)
     → IsKept ss rep2 look2 is (ws ++ (word ∷ []))
 kept_label ss rep rep2 look look2 is ws word place h1 h2 h3 = search (rules, statements_size, append_assoc, map-append)
 

@@ -7,7 +7,7 @@ use Rattle.std.specs.Map.{lookup}
 use Rattle.std.specs.Option.{option_or}
 use Rattle.cbpf_syntax.specs.Lexemes.{Lexeme}
 use Rattle.cbpf_syntax.proofs.Apart.{equal_bytes}
-use Rattle.cbpf_text.specs.Labels.{name_of, place_of, repeat_after}
+use Rattle.cbpf_text.specs.Labels.{name_of, item_named, repeat_after}
 use Rattle.cbpf_text.specs.Drafts.{AreSet}
 use Rattle.cbpf_text.specs.declared.name.Name.{Name}
 
@@ -21,13 +21,13 @@ lookup_append p (x ∷ xs) ys = elim (cases_Bool (p x.0)) [
 
 -- the place of a label whose name one of those before it gives
 abbrev pub repeat_at : List (Lexeme × ℕ) → Lexeme → Option ℕ
-repeat_at before t = cond (is_some (place_of before (name_of t))) (Some t.at) None
+repeat_at before t = cond (is_some (item_named before (name_of t))) (Some t.at) None
 
 -- one more label
 pub repeat_more : (before ls : List (Lexeme × ℕ)) (l : Lexeme × ℕ) → repeat_after before (ls ++ (l ∷ []))
     ≡ option_or (repeat_after before ls) (repeat_at (before ++ ls) l.0)
 repeat_more before [] l = rw (append-nil before) refl
-repeat_more before (x ∷ ls) l = elim (cases_Bool (is_some (place_of before (name_of x.0)))) [
+repeat_more before (x ∷ ls) l = elim (cases_Bool (is_some (item_named before (name_of x.0)))) [
   | inl e ↦ rw e refl
   | inr e ↦ rw (e, ← append_assoc before (x ∷ []) ls) (repeat_more (before ++ (x ∷ [])) ls l)
 ]
@@ -47,8 +47,8 @@ pub set_again : (ls : List (Lexeme × ℕ)) (l : Lexeme × ℕ) (rep : Option �
     → AreSet (ls ++ (l ∷ [])) (Some l.0.at) look2
 set_again ls l (Some at) look look2 k h1 h2 h3 h4 = let q : false ≡ true = h1 in cc
 set_again ls l None look look2 k h1 h2 h3 h4 =
-    let given : is_some (place_of ls (name_of l.0)) ≡ true =
-    ap (λ w. is_some (place_of ls w)) (sym h3) ∙ (ap (λ (o : Option ℕ). is_some o) (sym (h2.0 k)) ∙ sym h4) in
+    let given : is_some (item_named ls (name_of l.0)) ≡ true =
+    ap (λ w. is_some (item_named ls w)) (sym h3) ∙ (ap (λ (o : Option ℕ). is_some o) (sym (h2.0 k)) ∙ sym h4) in
     repeat_more [] ls l ∙ rw (h2.1, given) refl
 
 -- a label of a new name
@@ -58,13 +58,13 @@ pub set_new : (ls : List (Lexeme × ℕ)) (l : Lexeme × ℕ) (rep : Option ℕ)
     → AreSet (ls ++ (l ∷ [])) rep look2
 set_new ls l (Some at) look look2 k e s n h up = let q : false ≡ true = e in cc
 set_new ls l None look look2 k e s n h up =
-    let new : place_of ls (name_of l.0) ≡ None =
-    ap (place_of ls) (sym n) ∙ (sym (s.0 k) ∙ is_some_false (look k) h) in (
+    let new : item_named ls (name_of l.0) ≡ None =
+    ap (item_named ls) (sym n) ∙ (sym (s.0 k) ∙ is_some_false (look k) h) in (
       λ j. up j ∙ rw (n, s.0 j) (by_test j.bytes.now (bytes_eq (name_of l.0) j.bytes.now) refl new),
       repeat_more [] ls l ∙ rw (s.1, new) refl,
     )
   where
-    by_test : (w : List ℕ) (t : Bool) → bytes_eq (name_of l.0) w ≡ t → place_of ls (name_of l.0) ≡ None
-        → cond (bytes_eq (name_of l.0) w) (Some l.1) (place_of ls w) ≡ place_of (ls ++ (l ∷ [])) w
+    by_test : (w : List ℕ) (t : Bool) → bytes_eq (name_of l.0) w ≡ t → item_named ls (name_of l.0) ≡ None
+        → cond (bytes_eq (name_of l.0) w) (Some l.1) (item_named ls w) ≡ item_named (ls ++ (l ∷ [])) w
     by_test w true q new = sym (lookup_append _ ls (l ∷ []) ∙ rw (q, ← equal_bytes (name_of l.0) w q, new) refl)
     by_test w false q new = search (rules, lookup_append)

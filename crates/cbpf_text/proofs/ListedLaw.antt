@@ -7,10 +7,10 @@ use Rattle.std.proofs.lemmas.Fmt.{decimal_injective}
 use Rattle.cbpf_syntax.specs.Lexemes.{Lexeme}
 use Rattle.cbpf_syntax.specs.Items.{Item, IsItem, Items, names_at}
 use Rattle.cbpf_syntax.proofs.Apart.{equal_bytes, bytes_eq_self}
-use Rattle.cbpf_text.specs.Labels.{name_of, labels_from, place_of, repeat_after}
+use Rattle.cbpf_text.specs.Labels.{name_of, labels_from, item_named, repeat_after}
 use Rattle.cbpf_text.proofs.Encoding.{fault_append}
 use Rattle.cbpf_text.proofs.Answered.{fault_counted}
-use Rattle.cbpf_text.proofs.ListedNumbers.{label_name, Places, label_fits, label_segment, is_label_segment}
+use Rattle.cbpf_text.proofs.ListedNumbers.{label_name, NamesItems, label_fits, label_segment, is_label_segment}
 use Rattle.std.specs.List.{flat_map, enumerate_from}
 use Rattle.std.proofs.lemmas.Bool.{and_parts, and_from, false_from_ne_true}
 use Rattle.cbpf_code.specs.declared.insn.Insn.{Insn}
@@ -69,33 +69,33 @@ differ : (i j : ℕ) → i < 2 ^ 64 → j < 2 ^ 64 → (i ≡ j → ⊥) → byt
 differ i j l m apart = false_from_ne_true (bytes_eq (label_name i) (label_name j))
     (λ e. apart (label_differs i j l m (equal_bytes (label_name i) (label_name j) e)))
 
-place_here : (i m : ℕ) (items : List Item) → i + length items < 2 ^ 64 → AreLabelled i items → m < length items
-    → place_of (labels_from i items) (label_name (i + m)) ≡ Some (i + m)
-place_here i m [] l h b = absurd (omega arith)
-place_here i zero (item ∷ items) l h b =
+named_here : (i m : ℕ) (items : List Item) → i + length items < 2 ^ 64 → AreLabelled i items → m < length items
+    → item_named (labels_from i items) (label_name (i + m)) ≡ Some (i + m)
+named_here i m [] l h b = absurd (omega arith)
+named_here i zero (item ∷ items) l h b =
     let z : i + 0 ≡ i = omega arith in
     rw (h.0.only, h.0.named, z, bytes_eq_self (label_name i)) refl
-place_here i (suc m) (item ∷ items) l h b =
+named_here i (suc m) (item ∷ items) l h b =
     let e : i + suc m ≡ i + 1 + m = omega arith in
     rw (e, h.0.only, h.0.named, differ i (i + 1 + m) (omega arith) (omega arith) (λ z. omega (arith, z)))
-    (place_here (i + 1) m items (omega arith) h.1 (omega arith))
+    (named_here (i + 1) m items (omega arith) h.1 (omega arith))
 
-labels_place : (items : List Item) → length items ≤ MAX_INSTRUCTIONS → AreLabelled 0 items
-    → Places (length items) (labels_from 0 items)
-labels_place items few h m l =
+labels_name : (items : List Item) → length items ≤ MAX_INSTRUCTIONS → AreLabelled 0 items
+    → NamesItems (length items) (labels_from 0 items)
+labels_name items few h m l =
     let z : 0 + m ≡ m = omega arith in
-    rw z at (place_here 0 m items (omega arith) h l)
+    rw z at (named_here 0 m items (omega arith) h l)
 
 -- the label is that of a number before this one
 abbrev Below : ℕ → Lexeme × ℕ → Type 0
 Below n l = (m : ℕ) × (m < n) × (name_of l.0 ≡ label_name m)
 
-no_place : (n : ℕ) (ls : List (Lexeme × ℕ)) → n < 2 ^ 64 → All (Below n) ls → place_of ls (label_name n) ≡ None
-no_place n [] l b = refl
-no_place n (x ∷ ls) l b =
+none_named : (n : ℕ) (ls : List (Lexeme × ℕ)) → n < 2 ^ 64 → All (Below n) ls → item_named ls (label_name n) ≡ None
+none_named n [] l b = refl
+none_named n (x ∷ ls) l b =
     let q = All-head (Below n) x ls b in
     rw (q.2, differ q.0 n (omega (arith, q.1)) l (λ z. omega (arith, z, q.1)))
-    (no_place n ls l (All-tail (Below n) x ls b))
+    (none_named n ls l (All-tail (Below n) x ls b))
 
 no_repeat : (i : ℕ) (items : List Item) (before : List (Lexeme × ℕ)) → i + length items < 2 ^ 64 → AreLabelled i items
     → All (Below i) before → repeat_after before (labels_from i items) ≡ None
@@ -103,7 +103,7 @@ no_repeat i [] before l h b = refl
 no_repeat i (item ∷ items) before l h b =
     let more = All-push (Below (i + 1)) before (h.0.label, i)
     (λ k d m. let q = b k d m in (q.0, omega (arith, q.1), q.2)) (i, omega arith, h.0.named) in
-    rw (h.0.only, h.0.named, no_place i before (omega arith) b)
+    rw (h.0.only, h.0.named, none_named i before (omega arith) b)
     (no_repeat (i + 1) items (before ++ ((h.0.label, i) ∷ [])) (omega arith) h.1 more)
 
 -- The lines of a listing as segments, whose tokens are the items of the instructions.
@@ -120,8 +120,8 @@ record Lists (n i : ℕ) (insns : List Insn) : Type 0 where
   size : (at : ℕ) → length (items at) ≡ length insns
   parsed : (at : ℕ) → Items (lexemes_at at segments) (items at)
   labelled : (at : ℕ) → AreLabelled i (items at)
-  good : (at : ℕ) (ls : List (Lexeme × ℕ)) → Places n ls → uses_fault ls (uses_from i (items at)) ≡ None
-  encoded : (at : ℕ) (ls : List (Lexeme × ℕ)) → Places n ls → map plain insns ≡ insns_from ls i (items at)
+  good : (at : ℕ) (ls : List (Lexeme × ℕ)) → NamesItems n ls → uses_fault ls (uses_from i (items at)) ≡ None
+  encoded : (at : ℕ) (ls : List (Lexeme × ℕ)) → NamesItems n ls → map plain insns ≡ insns_from ls i (items at)
 
 lists_none : (n i : ℕ) → Lists n i []
 lists_none n i = record {
@@ -229,7 +229,7 @@ lists_line n i insn op insns known most l range inside b =
     let small : i < 2 ^ 64 = omega arith in
     let ends = and_parts _ _ (operand_apart o e i insn) in
     let positive = and_parts _ _ ends.1 in
-    let filled : (at : ℕ) (ls : List (Lexeme × ℕ)) → Places n ls
+    let filled : (at : ℕ) (ls : List (Lexeme × ℕ)) → NamesItems n ls
     → (uses_fault ls (uses_of i (line_item at i w operand row)) ≡ None)
     × (plain insn ≡ insn_of ls i (line_item at i w operand row)) =
     λ at ls p. line_filled at i insn op (is_some e) operand ls known
@@ -291,8 +291,8 @@ tokens_assemble : (list : List Insn) (b : Lists (length list) 0 list) → IsSoun
 tokens_assemble list b sound =
     let items = b.items 0 in
     let few : length items ≤ MAX_INSTRUCTIONS = omega (arith, b.size 0, sound_few list sound) in
-    let places : Places (length list) (labels_from 0 items) =
-    subst (λ n. Places n (labels_from 0 items)) (b.size 0) (labels_place items few (b.labelled 0)) in
+    let places : NamesItems (length list) (labels_from 0 items) =
+    subst (λ n. NamesItems n (labels_from 0 items)) (b.size 0) (labels_name items few (b.labelled 0)) in
     record {
       items = items;
       parsed = b.parsed 0;

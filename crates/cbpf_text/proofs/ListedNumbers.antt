@@ -18,7 +18,7 @@ use Rattle.cbpf_syntax.proofs.Spelled.Segment.{word, number}
 use Rattle.cbpf_syntax.specs.Fits.{fits, extension_names}
 use Rattle.cbpf_syntax.specs.Table.{mnemonics}
 use Rattle.cbpf_syntax.specs.Lexemes.{Lexeme}
-use Rattle.cbpf_text.specs.Labels.{place_of}
+use Rattle.cbpf_text.specs.Labels.{item_named}
 use Rattle.cbpf_text.proofs.ListedRows.{first_byte, later_bytes}
 use Rattle.cbpf_syntax.specs.Classes as forms
 use Rattle.cbpf_syntax.specs.Lexemes as grammar
@@ -105,8 +105,8 @@ pub is_label_segment : (i : ℕ) → i < 2 ^ 64 → IsSegment (label_segment i)
 is_label_segment i l = (lit< tt, refl, (are_decimal i l).names)
 
 -- each label names the item at its number, of so many
-abbrev pub Places : ℕ → List (Lexeme × ℕ) → Type 0
-Places n labels = (m : ℕ) → m < n → place_of labels (label_name m) ≡ Some m
+abbrev pub NamesItems : ℕ → List (Lexeme × ℕ) → Type 0
+NamesItems n labels = (m : ℕ) → m < n → item_named labels (label_name m) ≡ Some m
 
 abbrev pub decimal_segment : ℕ → Segment
 decimal_segment k = number (first_byte (decimal k)) (later_bytes (decimal k)) k

@@ -25,7 +25,7 @@ use Rattle.cbpf_syntax.specs.Lexemes as grammar
 use Rattle.cbpf_text.specs.declared.encode.TheConstants.{FARTHEST}
 use Rattle.cbpf_text.specs.declared.fault.AsmKind.{AsmKind}
 use Rattle.cbpf_text.specs.declared.fault.AsmKind.TheVariants as kinds
-use Rattle.cbpf_text.specs.Labels.{name_of, place_of}
+use Rattle.cbpf_text.specs.Labels.{name_of, item_named}
 use Rattle.cbpf_text.specs.Assembled.{offset_of, with_fields}
 use Rattle.cbpf_text.specs.Refusals.{is_conditional, use_fault, uses_fault}
 use Rattle.cbpf_text.proofs.Forms.{use_of}
@@ -34,7 +34,7 @@ use Rattle.cbpf_text.proofs.ListedRows.{operand_classes, operand_fields, first_b
 use Rattle.cbpf_text.proofs.ListedRows.{plain_as}
 use Rattle.cbpf_text.proofs.ListedTokens.{lexemes_at, newline, are_positive}
 use Rattle.cbpf_syntax.specs.Numbers.{digit_value}
-use Rattle.cbpf_text.proofs.ListedNumbers.{Places, decimal_segment, spelled_decimal, is_decimal_segment, hex_segment}
+use Rattle.cbpf_text.proofs.ListedNumbers.{NamesItems, decimal_segment, spelled_decimal, is_decimal_segment, hex_segment}
 use Rattle.cbpf_text.proofs.ListedNumbers.{is_hex_segment, given_is, hex_rest, hex_given, label_fits, label_name, label_segment, is_label_segment}
 
 abbrev immediate_segments : ℕ → List Segment
@@ -152,11 +152,11 @@ Fills f labels i code k ts insn = (uses_fault labels (map (use_of i (is_conditio
     × (insn ≡ with_fields f code k (offset_of labels i (slice_get ts 0)) (offset_of labels i (slice_get ts 1)))
 
 -- a target after the instruction, as far as a conditional jump goes
-target_good : (labels : List (Lexeme × ℕ)) (n i d : ℕ) (short : Bool) (t : Lexeme) → Places n labels → i + 1 + d < n
+target_good : (labels : List (Lexeme × ℕ)) (n i d : ℕ) (short : Bool) (t : Lexeme) → NamesItems n labels → i + 1 + d < n
     → name_of t ≡ label_name (i + 1 + d) → (short ≡ true → d ≤ FARTHEST)
     → (use_fault labels (use_of i short t) ≡ None) × (offset_of labels i (Some t) ≡ d)
 target_good labels n i d short t p l e near =
-    let found : place_of labels (name_of t) ≡ Some (i + 1 + d) = ap (place_of labels) e ∙ p (i + 1 + d) l in
+    let found : item_named labels (name_of t) ≡ Some (i + 1 + d) = ap (item_named labels) e ∙ p (i + 1 + d) l in
     let after : nat_le (i + 1 + d) i ≡ false = lt-leb (i + 1 + d) i (omega arith) in
     let apart : i + 1 + d - (i + 1) ≡ d = omega arith in
     (rw (found, after) (by_short short near), rw found apart)
@@ -170,14 +170,14 @@ target_good labels n i d short t p l e near =
 abbrev label_at : ℕ → ℕ → Lexeme
 label_at at m = record { symbol = grammar.Symbol.word (label_name m); at = at }
 
-goto_fills : (labels : List (Lexeme × ℕ)) (n i k : ℕ) (insn : Insn) (t : Lexeme) → Places n labels → i + 1 + insn.k < n
+goto_fills : (labels : List (Lexeme × ℕ)) (n i k : ℕ) (insn : Insn) (t : Lexeme) → NamesItems n labels → i + 1 + insn.k < n
     → name_of t ≡ label_name (i + 1 + insn.k)
     → Fills Goto labels i insn.code k (t ∷ []) (record { code = insn.code; jt = 0; jf = 0; k = insn.k })
 goto_fills labels n i k insn t p l e =
     let g = target_good labels n i insn.k false t p l e (λ z. let y : false ≡ true = z in cc) in
     (rw g.0 refl, λ j. record { code = insn.code; jt = 0; jf = 0; k = sym g.1 j })
 
-branch_fills : (labels : List (Lexeme × ℕ)) (n i k m : ℕ) (insn : Insn) (t u : Lexeme) → Places n labels → InRange insn
+branch_fills : (labels : List (Lexeme × ℕ)) (n i k m : ℕ) (insn : Insn) (t u : Lexeme) → NamesItems n labels → InRange insn
     → (i + 1 + insn.jt < n) × (i + 1 + insn.jf < n) → name_of t ≡ label_name (i + 1 + insn.jt)
     → name_of u ≡ label_name (i + 1 + insn.jf) → m ≡ k
     → Fills Branch labels i insn.code k (t ∷ u ∷ []) (record { code = insn.code; jt = insn.jt; jf = insn.jf; k = m })
@@ -187,7 +187,7 @@ branch_fills labels n i k m insn t u p r l e f q =
     (rw (g.0, h.0) refl, λ j. record { code = insn.code; jt = sym g.1 j; jf = sym h.1 j; k = q j })
 
 pub operand_fills : (o : Operand) (e : Option Ext) (n i at : ℕ) (insn : Insn) (labels : List (Lexeme × ℕ))
-    → ext_at insn.k ≡ e → InRange insn → TargetsInside n i insn o → Places n labels
+    → ext_at insn.k ≡ e → InRange insn → TargetsInside n i insn o → NamesItems n labels
     → Fills (operand_fields o) labels i insn.code
     (literal_of (operand_classes (is_some e) o) (lexemes_at at (operand_segments o e i insn)))
     (names_at (operand_classes (is_some e) o) (lexemes_at at (operand_segments o e i insn))) (plain_as o insn)

@@ -4,7 +4,7 @@ use Rattle.cbpf_code.specs.declared.insn.Insn.{Insn}
 use Rattle.cbpf_syntax.specs.Tokens.{line_of}
 use Rattle.cbpf_syntax.specs.Lexemes.{Lexeme, lexemes_of}
 use Rattle.cbpf_syntax.proofs.Cuts.{some-same}
-use Rattle.cbpf_syntax.proofs.Apart.{one_reading}
+use Rattle.cbpf_syntax.proofs.Apart.{one_item_list}
 use Rattle.cbpf_syntax.proofs.Outcomes.{one_list}
 use Rattle.cbpf_syntax.proofs.Outcomes as lexer
 use Rattle.cbpf_syntax.proofs.FirstRefusal.{items_accepted}
@@ -18,7 +18,7 @@ use Rattle.cbpf_text.specs.Refusals.IsTextFault.{of_piece, of_tokens}
 use Rattle.cbpf_text.specs.Laws.{OneAssembly, NeverBoth, OneRefusal}
 
 one_assembled : (ts : List Lexeme) (xs ys : List Insn) → AssembleTokens ts xs → AssembleTokens ts ys → xs ≡ ys
-one_assembled ts xs ys a b = let e : a.items ≡ b.items = one_reading ts a.items b.items a.parsed b.parsed in
+one_assembled ts xs ys a b = let e : a.items ≡ b.items = one_item_list ts a.items b.items a.parsed b.parsed in
     a.encoded ∙ (ap (λ is. insns_from (labels_from 0 is) 0 is) e ∙ sym b.encoded)
 
 pub one_assembly : OneAssembly
@@ -31,9 +31,9 @@ one_assembly text xs ys a b = let e : a.tokens ≡ b.tokens = one_list text a.to
 not_tokens : (ts : List Lexeme) (insns : List Insn) (kind : AsmKind) (at : ℕ) → AssembleTokens ts insns
     → IsTokensFault ts kind at → ⊥
 not_tokens ts insns kind at a (of_grammar f n r) =
-    items_accepted ts a.items a.parsed a.ranged f r.place r.first.refused
+    items_accepted ts a.items a.parsed a.ranged f r.index r.first.refused
 not_tokens ts insns kind at a (of_items is k n p acc f) =
-    let e : ◌≡◌ {A = Option (AsmKind × ℕ)} None (Some (k, n)) = sym a.no_fault ∙ (ap items_fault (one_reading ts a.items is a.parsed p) ∙ f) in cc
+    let e : ◌≡◌ {A = Option (AsmKind × ℕ)} None (Some (k, n)) = sym a.no_fault ∙ (ap items_fault (one_item_list ts a.items is a.parsed p) ∙ f) in cc
 
 pub never_both : NeverBoth
 never_both text insns kind line a (of_piece bad l p) = lexer.never_both text a.tokens bad l a.lexed p
@@ -48,10 +48,10 @@ one_of_tokens : (ts : List Lexeme) (k l : AsmKind) (m n : ℕ) → IsTokensFault
     → (k ≡ l) × (m ≡ n)
 one_of_tokens ts k l m n (of_grammar f i r) (of_grammar g j s) =
     let e = grammar.one_shown ts f g m n r s in (ap grammar_kind e.0, e.1)
-one_of_tokens ts k l m n (of_grammar f i r) (of_items is c j o a x) = absurd (a f r.place r.first.refused)
-one_of_tokens ts k l m n (of_items is c j o a x) (of_grammar f i r) = absurd (a f r.place r.first.refused)
+one_of_tokens ts k l m n (of_grammar f i r) (of_items is c j o a x) = absurd (a f r.index r.first.refused)
+one_of_tokens ts k l m n (of_items is c j o a x) (of_grammar f i r) = absurd (a f r.index r.first.refused)
 one_of_tokens ts k l m n (of_items is c i o a x) (of_items js d j p b y) =
-    let e = some-same (c, i) (d, j) (sym x ∙ (ap items_fault (one_reading ts is js o p) ∙ y)) in
+    let e = some-same (c, i) (d, j) (sym x ∙ (ap items_fault (one_item_list ts is js o p) ∙ y)) in
     (ap (λ q. q.0) e, ap (λ q. q.1) e)
 
 pub one_refusal : OneRefusal

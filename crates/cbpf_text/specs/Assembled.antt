@@ -11,14 +11,14 @@ use Rattle.cbpf_syntax.specs.declared.table.Fields.TheVariants.{Constant, Goto, 
 use Rattle.cbpf_syntax.specs.Lexemes.{Lexeme, lexemes_of}
 use Rattle.cbpf_syntax.specs.Items.{Item, Items}
 use Rattle.cbpf_syntax.specs.Refusals.{IsLargeNegative}
-use Rattle.cbpf_text.specs.Labels.{name_of, labels_from, place_of}
+use Rattle.cbpf_text.specs.Labels.{name_of, labels_from, item_named}
 use Rattle.cbpf_text.specs.Operands.{literal_in, targets_in}
 use Rattle.cbpf_text.specs.Refusals.{items_fault}
 
 -- the number of items between the one at the index and a target's, and 0 where there is no target
 abbrev pub offset_of : List (Lexeme × ℕ) → ℕ → Option Lexeme → ℕ
 offset_of labels index None = 0
-offset_of labels index (Some target) = unwrap_or (place_of labels (name_of target)) 0 - (index + 1)
+offset_of labels index (Some target) = unwrap_or (item_named labels (name_of target)) 0 - (index + 1)
 
 -- where the literal and the offsets of two targets stand
 abbrev pub with_fields : Fields → ℕ → ℕ → ℕ → ℕ → Insn

@@ -12,10 +12,9 @@ use Rattle.cbpf_text.specs.declared.draft.Statement.{Statement}
 use Rattle.cbpf_text.specs.declared.draft.Target.{Target}
 use Rattle.cbpf_text.specs.declared.name.Name.{Name}
 use Rattle.cbpf_text.specs.declared.fault.AsmKind.{AsmKind}
-use Rattle.cbpf_text.specs.declared.placed_fault.PlacedFault.{PlacedFault}
-use Rattle.cbpf_text.specs.Labels.{name_of, labels_of, labels_from, place_of, first_repeat}
+use Rattle.cbpf_text.specs.Labels.{name_of, labels_of, labels_from, item_named, first_repeat}
 use Rattle.cbpf_text.specs.Operands.{literal_in, targets_in}
-use Rattle.cbpf_text.specs.Refusals.{mnemonic_at, Reported}
+use Rattle.cbpf_text.specs.Refusals.{mnemonic_at}
 
 -- The label table: for each name the index of the item that sets it.
 
@@ -24,7 +23,7 @@ same_name a b = bytes_eq a.bytes.now b.bytes.now
 
 -- the look-ups answer for which items the labels stand
 abbrev pub Resolves : List (Lexeme × ℕ) → (Name → Option ℕ) → Type 0
-Resolves labels look = (k : Name) → look k ≡ place_of labels k.bytes.now
+Resolves labels look = (k : Name) → look k ≡ item_named labels k.bytes.now
 
 -- What is kept of items.
 
@@ -70,7 +69,7 @@ IsDraft (Some at) statements repeat look items waiting =
 
 -- What is made of what is kept.
 
--- the answer is the value where there is no fault, and else it reports the fault
-abbrev pub IsAnswer : {X : Type 0} → Option (AsmKind × ℕ) → X → Result X PlacedFault → Type 0
+-- the answer is the value where there is no fault, and else the fault
+abbrev pub IsAnswer : {X : Type 0} → Option (AsmKind × ℕ) → X → Result X (AsmKind × ℕ) → Type 0
 IsAnswer fault value (Ok x) = (fault ≡ None) × (x ≡ value)
-IsAnswer fault value (Err f) = Reported fault f
+IsAnswer fault value (Err f) = fault ≡ Some f

@@ -18,8 +18,8 @@ OneAssembly = (text : List ℕ) (xs ys : List Insn) → Assembles text xs → As
 
 -- out of memory aside, a text is refused for one reason, at one line
 abbrev pub OneRefusal : Type 0
-OneRefusal = (text : List ℕ) (kind other : AsmKind) (line place : ℕ) → IsRefused text (At kind line)
-    → IsRefused text (At other place) → (kind ≡ other) × (line ≡ place)
+OneRefusal = (text : List ℕ) (kind other : AsmKind) (line other_line : ℕ) → IsRefused text (At kind line)
+    → IsRefused text (At other other_line) → (kind ≡ other) × (line ≡ other_line)
 
 -- no text that assembles is refused at a line
 abbrev pub NeverBoth : Type 0

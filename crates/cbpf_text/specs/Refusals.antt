@@ -18,9 +18,7 @@ use Rattle.cbpf_text.specs.declared.fault.AsmKind.{AsmKind}
 use Rattle.cbpf_text.specs.declared.fault.AsmKind.TheVariants as kinds
 use Rattle.cbpf_text.specs.declared.fault.AsmFault.{AsmFault}
 use Rattle.cbpf_text.specs.declared.fault.AsmFault.TheVariants as faults
-use Rattle.cbpf_text.specs.declared.placed_fault.PlacedFault.{PlacedFault}
-use Rattle.cbpf_text.specs.declared.placed_fault.PlacedFault.TheVariants as placed
-use Rattle.cbpf_text.specs.Labels.{name_of, labels_from, place_of, first_repeat}
+use Rattle.cbpf_text.specs.Labels.{name_of, labels_from, item_named, first_repeat}
 use Rattle.cbpf_text.specs.Operands.{targets_in}
 
 -- a bad piece, as it is reported
@@ -53,17 +51,17 @@ uses_from index (item ∷ items) = uses_of index item ++ uses_from (index + 1) i
 
 -- why a use is refused, by the index of the item that its label stands for: none sets the label; it is not after the
 -- jump; it is further than a conditional jump goes
-abbrev pub place_fault : Use → Option ℕ → Option AsmKind
-place_fault u None = Some kinds.LabelNotSet
-place_fault u (Some place) =
-    if nat_le place u.index then Some kinds.NotAfter
-    else (if u.conditional && nat_lt (u.index + 1 + FARTHEST) place then Some kinds.TooFar
+abbrev pub target_fault : Use → Option ℕ → Option AsmKind
+target_fault u None = Some kinds.LabelNotSet
+target_fault u (Some item) =
+    if nat_le item u.index then Some kinds.NotAfter
+    else (if u.conditional && nat_lt (u.index + 1 + FARTHEST) item then Some kinds.TooFar
     else None)
 
 -- the same among labels, with the place in the text that shows it
 abbrev pub use_fault : List (Lexeme × ℕ) → Use → Option (AsmKind × ℕ)
 use_fault labels u =
-    option_map (λ kind. (kind, u.target.at)) (place_fault u (place_of labels (name_of u.target)))
+    option_map (λ kind. (kind, u.target.at)) (target_fault u (item_named labels (name_of u.target)))
 
 -- the first of these that there is
 abbrev pub uses_fault : List (Lexeme × ℕ) → List Use → Option (AsmKind × ℕ)
@@ -111,12 +109,7 @@ abbrev pub IsLexRefused : List ℕ → AsmFault → Type 0
 IsLexRefused text faults.Memory = Unit {0}
 IsLexRefused text (faults.At kind line) = (bad : BadPiece) × (kind ≡ bad_piece_kind bad) × IsFirstBad text bad line
 
--- the fault is reported; out of memory says nothing
-abbrev pub Reported : Option (AsmKind × ℕ) → PlacedFault → Type 0
-Reported fault placed.Memory = Unit {0}
-Reported fault (placed.At kind at) = fault ≡ Some (kind, at)
-
--- the fault reports the refusal with the line of its place
-abbrev pub IsReportedAt : List ℕ → PlacedFault → AsmFault → Type 0
-IsReportedAt text placed.Memory fault = fault ≡ faults.Memory
-IsReportedAt text (placed.At kind at) fault = fault ≡ faults.At kind (line_of text at)
+-- the fault is reported with its line; out of memory says nothing
+abbrev pub ReportedIn : List ℕ → Option (AsmKind × ℕ) → AsmFault → Type 0
+ReportedIn text fault faults.Memory = Unit {0}
+ReportedIn text fault (faults.At kind line) = (at : ℕ) × (fault ≡ Some (kind, at)) × (line ≡ line_of text at)

@@ -7,21 +7,22 @@ ghost use Rattle.cbpf_syntax.specs.Items as items;
 ghost use Rattle.cbpf_text.specs.Assembled.{Assembles, insns_from};
 ghost use Rattle.cbpf_text.specs.Labels.{labels_from};
 ghost use Rattle.cbpf_text.specs.Drafts.{IsDraft, same_name};
-ghost use Rattle.cbpf_text.specs.Refusals.{Reported, items_fault, IsRefused};
+ghost use Rattle.cbpf_text.specs.Refusals.{ReportedIn, items_fault, IsRefused};
 ghost use Rattle.cbpf_text.specs.Operands.{HasForm};
 
 use crate::draft::{Draft, read};
 use crate::encode::encode_all;
 use crate::fault::{AsmFault, AsmKind};
-use crate::placed_fault::{PlacedFault, with_line};
+use crate::placed_fault::fault_on_line;
 use cbpf_code::Insn;
 use std::alloc::Allocator;
 
-/// The instructions of a draft.
+/// The instructions of the draft of a text.
 fn encode_draft<A: Allocator + Copy>(
     alloc: A,
+    text: &[u8],
     draft: &Draft<'_, A>,
-) -> Result<Vec<Insn, A>, PlacedFault>
+) -> Result<Vec<Insn, A>, AsmFault>
     requires { length draft.now.statements.items ≤ MAX_INSTRUCTIONS }
     ensures encoded { (is : List items.Item) →
         IsDraft draft.now.excess draft.now.statements.items draft.now.labels.repeat
@@ -31,18 +32,18 @@ fn encode_draft<A: Allocator + Copy>(
     ensures refused { (is : List items.Item) →
         IsDraft draft.now.excess draft.now.statements.items draft.now.labels.repeat
         (λ k. get same_name draft.now.labels.table k) is [] →
-        All HasForm is → IfErr result (Reported (items_fault is)) }
+        All HasForm is → IfErr result (ReportedIn text.now (items_fault is)) }
 {
     if let Some(at) = draft.excess {
-        return Err(PlacedFault::At(AsmKind::TooMany, at));
+        return Err(fault_on_line(text, (AsmKind::TooMany, at)));
     }
     if draft.statements.is_empty() {
-        return Err(PlacedFault::At(AsmKind::NoInstruction, 0));
+        return Err(fault_on_line(text, (AsmKind::NoInstruction, 0)));
     }
     if let Some(at) = draft.labels.repeat {
-        return Err(PlacedFault::At(AsmKind::LabelSetTwice, at));
+        return Err(fault_on_line(text, (AsmKind::LabelSetTwice, at)));
     }
-    encode_all(alloc, &draft.labels.table, &draft.statements)
+    encode_all(alloc, text, &draft.labels.table, &draft.statements)
 }
 
 /// The instructions of a source text, in order. They are not checked as a program.
@@ -64,8 +65,5 @@ pub fn assemble<A: Allocator + Copy>(alloc: A, text: &[u8]) -> Result<Vec<Insn, 
     ensures refused { IfErr result (IsRefused text.now) }
 {
     let draft = read(alloc, text)?;
-    match encode_draft(alloc, &draft) {
-        Ok(insns) => Ok(insns),
-        Err(fault) => Err(with_line(text, fault)),
-    }
+    encode_draft(alloc, text, &draft)
 }

@@ -17,7 +17,7 @@ use crate::fault::{AsmFault, AsmKind, syntax_fault};
 use crate::labels::Labels;
 use crate::name::{Name, name_of};
 use crate::operand::value_at;
-use crate::placed_fault::{PlacedFault, with_line};
+use crate::placed_fault::fault_on_line;
 use crate::source::asm_fault;
 use cbpf_code::{MAX_INSTRUCTIONS, code_of};
 use cbpf_syntax::{Class, Fields, Lexeme, Reader, Row, Step};
@@ -163,7 +163,7 @@ fn fault_here<A: Allocator>(text: &[u8], reader: &mut Reader<'_, A>, n: usize) -
 {
     let refused = reader.fault(n);
     match reader.finish() {
-        Ok(()) => with_line(text, syntax_fault(refused)),
+        Ok(()) => fault_on_line(text, syntax_fault(refused)),
         Err(fault) => asm_fault(fault),
     }
 }
@@ -209,7 +209,7 @@ fn read_items<'a, A: Allocator + Copy>(
             None if waits => return Err(fault_here(text, reader, 0)),
             None => {
                 return match reader.large() {
-                    Some(at) => Err(with_line(text, PlacedFault::At(AsmKind::LargeNumber, at))),
+                    Some(at) => Err(fault_on_line(text, (AsmKind::LargeNumber, at))),
                     None => Ok(()),
                 };
             }

@@ -7,14 +7,14 @@ ghost use Rattle.cbpf_syntax.specs.Items as items;
 ghost use Rattle.cbpf_syntax.specs.Lexemes as lexemes;
 ghost use Rattle.cbpf_text.specs.declared.encode.TheConstants.{FARTHEST};
 ghost use Rattle.cbpf_text.specs.Assembled.{offset_of, insn_of, insns_from};
-ghost use Rattle.cbpf_text.specs.Refusals.{Reported, use_fault, uses_fault, uses_of, uses_from};
+ghost use Rattle.cbpf_text.specs.Refusals.{ReportedIn, use_fault, uses_fault, uses_of, uses_from};
 ghost use Rattle.cbpf_text.specs.Drafts.{same_name, Resolves, IsStatement, AreStatements, KeepsLabel, IsAnswer};
 ghost use Rattle.cbpf_text.specs.Operands.{HasForm};
 
 use crate::draft::{Statement, Target};
-use crate::fault::AsmKind;
+use crate::fault::{AsmFault, AsmKind};
 use crate::labels::LabelTable;
-use crate::placed_fault::PlacedFault;
+use crate::placed_fault::{PlacedFault, fault_on_line};
 use cbpf_code::Insn;
 use cbpf_syntax::Fields;
 use std::alloc::Allocator;
@@ -36,15 +36,15 @@ fn offset<A: Allocator>(
         (offset_of ls index (Some label)) result }
     ensures near { IfOk result (λ n. short ≡ true → n ≤ FARTHEST) }
 {
-    let Some(place) = labels.get(&target.name) else {
-        return Err(PlacedFault::At(AsmKind::LabelNotSet, target.at));
+    let Some(item) = labels.get(&target.name) else {
+        return Err((AsmKind::LabelNotSet, target.at));
     };
-    if *place <= index {
-        return Err(PlacedFault::At(AsmKind::NotAfter, target.at));
+    if *item <= index {
+        return Err((AsmKind::NotAfter, target.at));
     }
-    let between = *place - index - 1;
+    let between = *item - index - 1;
     if short && between > FARTHEST {
-        return Err(PlacedFault::At(AsmKind::TooFar, target.at));
+        return Err((AsmKind::TooFar, target.at));
     }
     Ok(between)
 }
@@ -94,23 +94,27 @@ fn encode<A: Allocator>(
     }
 }
 
-/// The instructions of all statements, or the first target that is refused.
+/// The instructions of all statements of a text, or the first target that is refused.
 pub(crate) fn encode_all<A: Allocator + Copy>(
     alloc: A,
+    text: &[u8],
     labels: &LabelTable<'_, A>,
     statements: &[Statement<'_>],
-) -> Result<Vec<Insn, A>, PlacedFault>
+) -> Result<Vec<Insn, A>, AsmFault>
     requires { length statements.now ≤ MAX_INSTRUCTIONS }
     ensures encoded { (ls : List (lexemes.Lexeme × ℕ)) (is : List items.Item) → AreStatements statements.now is →
         All HasForm is → Resolves ls (λ k. get same_name labels.now k) →
         IfOk result (λ v. (uses_fault ls (uses_from 0 is) ≡ None) × (v.items ≡ insns_from ls 0 is)) }
     ensures refused { (ls : List (lexemes.Lexeme × ℕ)) (is : List items.Item) → AreStatements statements.now is →
         All HasForm is → Resolves ls (λ k. get same_name labels.now k) →
-        IfErr result (Reported (uses_fault ls (uses_from 0 is))) }
+        IfErr result (ReportedIn text.now (uses_fault ls (uses_from 0 is))) }
 {
     let mut insns = Vec::with_capacity(alloc, statements.len())?;
     for i in 0..statements.len() {
-        insns.push(encode(labels, i as u32, &statements[i])?)?;
+        match encode(labels, i as u32, &statements[i]) {
+            Ok(insn) => insns.push(insn)?,
+            Err(fault) => return Err(fault_on_line(text, fault)),
+        }
     }
     Ok(insns)
 }

@@ -3,7 +3,6 @@
 ghost use Rattle.std.specs.Prelude.{◌≡◌, ℕ};
 ghost use Rattle.cbpf_syntax.specs.Refusals.{ParseFault, reported_at};
 ghost use Rattle.cbpf_text.specs.Refusals.{bad_piece_kind, grammar_kind};
-ghost use Rattle.cbpf_text.specs.declared.placed_fault.PlacedFault.TheVariants.{At};
 
 use crate::placed_fault::PlacedFault;
 use cbpf_syntax::{BadPiece, SyntaxFault};
@@ -61,12 +60,12 @@ pub(crate) fn bad_piece_kind(bad: BadPiece) -> AsmKind
 
 /// What a refusal of the grammar is reported as.
 pub(crate) fn syntax_fault(refused: SyntaxFault) -> PlacedFault
-    ensures { (fault : ParseFault) (at : ℕ) → refused ≡ reported_at fault at → result ≡ At (grammar_kind fault) at }
+    ensures { (fault : ParseFault) (at : ℕ) → refused ≡ reported_at fault at → result ≡ (grammar_kind fault, at) }
 {
     match refused {
-        SyntaxFault::Misplaced(at) => PlacedFault::At(AsmKind::Misplaced, at),
-        SyntaxFault::LargeNegative(at) => PlacedFault::At(AsmKind::LargeNumber, at),
-        SyntaxFault::Unfinished(at) => PlacedFault::At(AsmKind::Unfinished, at),
+        SyntaxFault::Misplaced(at) => (AsmKind::Misplaced, at),
+        SyntaxFault::LargeNegative(at) => (AsmKind::LargeNumber, at),
+        SyntaxFault::Unfinished(at) => (AsmKind::Unfinished, at),
     }
 }
 

@@ -1,7 +1,7 @@
 //! The tokens of a source text, and what is reported of one that has none.
 
-ghost use Rattle.std.specs.Prelude.{◌≡◌, ℕ, List, IfOk, IfErr, All};
-ghost use Rattle.cbpf_syntax.specs.Tokens.{Lexes, IsLexFault, IsSpanOf, line_of};
+ghost use Rattle.std.specs.Prelude.{ℕ, List, IfOk, IfErr, All};
+ghost use Rattle.cbpf_syntax.specs.Tokens.{Lexes, IsLexFault, IsSpanOf};
 ghost use Rattle.cbpf_text.specs.Refusals.{IsLexRefused};
 
 use crate::fault::{AsmFault, bad_piece_kind};
@@ -16,13 +16,6 @@ pub(crate) fn asm_fault(fault: LexFault) -> AsmFault
         LexFault::Memory => AsmFault::Memory,
         LexFault::At(bad, line) => AsmFault::At(bad_piece_kind(bad), line),
     }
-}
-
-/// The line of a place in the text, counted from 1. A place after the text is its end's.
-pub(crate) fn line_of(text: &[u8], at: usize) -> u64
-    ensures { result ≡ line_of text.now at }
-{
-    cbpf_syntax::line_of(text, at.min(text.len()))
 }
 
 /// The tokens of a source text, in order, each with its place.

@@ -37,9 +37,9 @@ pub enum Request {
     Why(WhyJob),
 }
 
-/// The place of the first byte of a kind.
-fn place_of(word: &[u8], sign: u8) -> Option<usize>
-    ensures place { result ≡ position (λ b. b == sign) word.now }
+/// Where the first byte of a kind stands.
+fn position_of(word: &[u8], sign: u8) -> Option<usize>
+    ensures first { result ≡ position (λ b. b == sign) word.now }
     ensures inside { IfSome result (λ i. i < length word.now) }
 {
     word.iter().position(|b| *b == sign)
@@ -50,8 +50,8 @@ fn place_of(word: &[u8], sign: u8) -> Option<usize>
 fn split_once(word: &[u8], sign: u8) -> Option<(&[u8], &[u8])>
     ensures { option_map (λ ends. (ends.0.now, ends.1.now)) result ≡ spec.split_once sign word.now }
 {
-    let place = place_of(word, sign)?;
-    Some((&word[..place], &word[place + 1..]))
+    let at = position_of(word, sign)?;
+    Some((&word[..at], &word[at + 1..]))
 }
 
 /// A number that isn't 0.

@@ -13,7 +13,7 @@ pub returns-in-Letter : goal.returns-in-Letter
 returns-in-Letter c = rw c.name_len.ensures.run (led_next _ _ _ Letter (sym c.in-Letter.ensures))
 
 pub returns-in-Digit : goal.returns-in-Digit
-returns-in-Digit c = rw (c.run_kind.ensures, c.name_len-n.ensures.run) (led_next _ _ _ Digit (sym c.in-Digit.ensures))
+returns-in-Digit c = rw (c.numeral_kind.ensures, c.name_len-n.ensures.run) (led_next _ _ _ Digit (sym c.in-Digit.ensures))
 
 pub returns-in-Slash : goal.returns-in-Slash
 returns-in-Slash c = rw c.slash_piece.ensures (led_next _ _ _ Slash (sym c.in-Slash.ensures))

@@ -9,8 +9,8 @@ returns-in-Ok g c taken r stuck =
     let rest = c.in-Ok.ensures.lexed taken r in
     let t = subst (λ u. AreLexemes u (taken ++ rest.0)) c.requires.text rest.2 in
     let first = c.fault-refused.ensures taken rest.0 r rest.1 (stuck rest.0 t) in
-    grammar_refused c.args.text.now (taken ++ rest.0) first.0 first.1 c.with_line.result t first.3
-    (rw (c.syntax_fault.ensures first.0 first.1 first.2) at c.with_line.ensures)
+    grammar_refused c.args.text.now (taken ++ rest.0) first.0 first.1 c.fault_on_line.result t first.3
+    (rw (c.syntax_fault.ensures first.0 first.1 first.2) at c.fault_on_line.ensures)
 
 pub returns-in-Err : goal.returns-in-Err
 returns-in-Err g c taken r stuck =

@@ -133,8 +133,8 @@ returns-in-Some-clause-refused g c =
     let at = goal.at.returns-in-Some-clause-refused g c in
     let e = ended g at.After-large (stepped g at.In-Ok) in
     let large : IsFirstLarge e.0 (Some c.in-Some.at) = subst (λ o. IsFirstLarge e.0 o) c.in-Some.is e.5 in
-    tokens_refused c.args.text.now e.0 kinds.LargeNumber c.in-Some.at c.with_line.result e.2
-    (items_large_refused e.0 e.1 c.in-Some.at e.3 large) c.with_line.ensures
+    tokens_refused c.args.text.now e.0 kinds.LargeNumber c.in-Some.at c.fault_on_line.result e.2
+    (items_large_refused e.0 e.1 c.in-Some.at e.3 large) c.fault_on_line.ensures
 
 pub returns-in-None-large-clause-items : goal.returns-in-None-large-clause-items
 returns-in-None-large-clause-items g c =
