@@ -3,6 +3,7 @@ use Rattle.std.proofs.Common.{◌≡◌, ℕ, List, [], ◌∷◌, length, Some,
 use Rattle.std.proofs.Common.{sym, subst, arith}
 use Rattle.std.specs.Prelude.{bytes_eq, codes, nat_lt}
 use Rattle.std.specs.List.{list_all}
+use Rattle.std.specs.Map.{lookup}
 use Rattle.std.specs.Str.{IsUtf8, is_utf8, IsAscii}
 use Rattle.std.proofs.lemmas.Bool.{and_parts}
 use Rattle.std.proofs.lemmas.Bool.Decides.{nat_tests}
@@ -10,7 +11,7 @@ use Rattle.std.proofs.lemmas.Slice.Eq.{bytes_eq-Decides, text_from_reads, HasByt
 use Rattle.std.proofs.lemmas.Str.{is_utf8-from_IsUtf8, IsUtf8-from_is_utf8, IsUtf8-from_ascii}
 use Rattle.std.proofs.lemmas.Str.Ascii.{IsAscii-nil, IsAscii-cons}
 use Rattle.cbpf_tool.specs.LineWords.{words_of, after_words, trimmed}
-use Rattle.cbpf_tool.specs.Commands.{ReadsArguments, readings, reading_in, by_name, name_in, load_by}
+use Rattle.cbpf_tool.specs.Commands.{ReadsArguments, readings, by_name, name_in, load_by}
 use Rattle.cbpf_tool.specs.declared.command.Command.TheVariants.{LoadCapture}
 use Rattle.cbpf_reply.specs.declared.errors.CommandFault.TheVariants.{UnknownCommand}
 
@@ -31,7 +32,7 @@ no-name : (w p : List ℕ) → (IsUtf8 w → ⊥) → is_ascii p ≡ true → by
 no-name w p n h = differs w p (bytes_eq w p) refl (λ e. n (subst IsUtf8 (sym e) (IsUtf8-from_ascii p (ascii p h))))
 
 none-named : (rows : List (List ℕ × ReadsArguments)) (w : List ℕ) → (IsUtf8 w → ⊥)
-    → list_all (λ row. is_ascii row.0) rows ≡ true → reading_in rows w ≡ None
+    → list_all (λ row. is_ascii row.0) rows ≡ true → lookup (bytes_eq w) rows ≡ None
 none-named [] w n h = refl
 none-named (row ∷ rows) w n h =
     let both : (is_ascii row.0 ≡ true) × (list_all (λ row. is_ascii row.0) rows ≡ true) = and_parts _ _ h in

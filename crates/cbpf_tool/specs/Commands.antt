@@ -2,6 +2,7 @@
 -- that it has; the rest is this project's own).
 use Rattle.std.specs.Prelude.{ℕ, ◌-◌, ◌^◌, pos, if◌then◌else◌, List, [], ◌∷◌, Option, Some, None, option_map}
 use Rattle.std.specs.Prelude.{Result, Ok, Err, codes, bytes_eq}
+use Rattle.std.specs.Map.{lookup}
 use Rattle.std.specs.Str.{is_utf8}
 use Rattle.cbpf_code.specs.Extension.{ext_named}
 use Rattle.cbpf_reply.specs.Breakpoints.{When, Always, A, X}
@@ -116,10 +117,6 @@ readings =
     ∷ (codes "quit", λ ws text. alone Quit ws)
     ∷ []
 
-abbrev pub reading_in : List (List ℕ × ReadsArguments) → List ℕ → Option ReadsArguments
-reading_in [] w = None
-reading_in (row ∷ rows) w = if bytes_eq w row.0 then Some row.1 else reading_in rows w
-
 abbrev pub or_wrong : Option Command → Result (Option Command) CommandFault
 or_wrong None = Err WrongArguments
 or_wrong (Some c) = Ok (Some c)
@@ -130,7 +127,7 @@ by_reading (Some read) ws text = or_wrong (read ws text)
 
 -- by the first word, the words after it, and what stands after the first of these, without the blanks around it
 abbrev pub by_name : List ℕ → List (List ℕ) → List ℕ → Result (Option Command) CommandFault
-by_name w ws text = by_reading (reading_in readings w) ws text
+by_name w ws text = by_reading (lookup (bytes_eq w) readings) ws text
 
 abbrev pub by_words : List (List ℕ) → List ℕ → Result (Option Command) CommandFault
 by_words [] text = Ok None

@@ -22,20 +22,21 @@ pub record Printed (script : List ℕ) (old new : Source) : Type 0 where
 -- the output of the lines before the one that could not be held, of which none is `quit`
 abbrev pub Faulted : List ℕ → Option (List ℕ) → Option (List ℕ) → Option (List ℕ) → Source → Source
     → ToolFault → Type 0
-Faulted script left old new f g Read =
-    (p : Printed script f g) × (part rest : List ℕ) × (script ≡ unlines p.ls ++ (part ++ rest)) × (left ≡ Some rest)
-    × (has_newline part ≡ false) × (¬ HasQuit p.ls) × Appended old new p.text
-Faulted script left old new f g Write = (p : Printed script f g) × AppendedPart old new p.text
-Faulted script left old new f g Memory =
-    (p : Printed script f g) × (p.more ≢ []) × (¬ HasQuit p.ls) × Appended old new p.text
-Faulted script left old new f g (RefusedSource e) = ⊥
+Faulted script left old new before after Read =
+    (p : Printed script before after) × (part rest : List ℕ) × (script ≡ unlines p.ls ++ (part ++ rest))
+    × (left ≡ Some rest) × (has_newline part ≡ false) × (¬ HasQuit p.ls) × Appended old new p.text
+Faulted script left old new before after Write = (p : Printed script before after) × AppendedPart old new p.text
+Faulted script left old new before after Memory =
+    (p : Printed script before after) × (p.more ≢ []) × (¬ HasQuit p.ls) × Appended old new p.text
+Faulted script left old new before after (RefusedSource e) = ⊥
 
 -- after `Ok`: the output of all lines, of which one is `quit`, or the reader has nothing left
 abbrev pub Finished : List ℕ → Option (List ℕ) → Option (List ℕ) → Option (List ℕ) → Source → Source → Type 0
-Finished script left old new f g = (p : Printed script f g) × (p.more ≡ []) × (HasQuit p.ls ⊎ (left ≡ Some []))
-    × Appended old new p.text
+Finished script left old new before after = (p : Printed script before after) × (p.more ≡ [])
+    × (HasQuit p.ls ⊎ (left ≡ Some [])) × Appended old new p.text
 
 -- what was written of a script, what is left of it, and how the files went on, after `Ok` or a fault
-pub record Debugged {X : Type 0} (script : List ℕ) (left old new : Option (List ℕ)) (f g : Source)
+pub record Debugged {X : Type 0} (script : List ℕ) (left old new : Option (List ℕ)) (before after : Source)
     (r : Result X ToolFault) : Type 0 where
-  pub outcome : MatchResult r (λ _. Finished script left old new f g) (λ e. Faulted script left old new f g e)
+  pub outcome : MatchResult r (λ _. Finished script left old new before after)
+      (λ e. Faulted script left old new before after e)

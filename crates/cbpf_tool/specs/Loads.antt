@@ -15,9 +15,13 @@ Faults old new name Absent = IsTrue old.is_known → map.get old.files.by_name n
 Faults old new name Device = (old.failures < new.failures) ⊎ (old.failures ≡ 2 ^ 64 - 1)
 Faults old new name Memory = Unit {0}
 
+-- the count with one failure more, which stops at its greatest value
+abbrev pub with_failure : ℕ → ℕ
+with_failure failures = min (failures + 1) (2 ^ 64 - 1)
+
 -- the count of failures after a load, where each device fault is counted once, and nothing else
 abbrev pub counted : {V : Type 0} → Result V LoadFault → ℕ → ℕ
-counted (Err Device) failures = min (failures + 1) (2 ^ 64 - 1)
+counted (Err Device) failures = with_failure failures
 counted _ failures = failures
 
 -- a load of the name with bytes `name`. The count never falls, and at its greatest value it stays there

@@ -1,5 +1,5 @@
 -- What a line of a script replies, and the view of the session after it.
-use Rattle.std.specs.Prelude.{◌≡◌, ◌≤◌, ◌<◌, ◌⊎◌, ◌+◌, ◌-◌, ◌^◌, min, IsTrue, ℕ, List, [], length, Option, Some, None}
+use Rattle.std.specs.Prelude.{◌≡◌, ◌≤◌, ◌<◌, ◌⊎◌, ◌-◌, ◌^◌, IsTrue, ℕ, List, [], length, Option, Some, None}
 use Rattle.std.specs.Prelude.{◌≢◌, Result, Ok, Err, IsOk, nat_eq}
 use Rattle.std.specs.FinMap as map
 use Rattle.std.specs.Map.{lookup}
@@ -20,6 +20,7 @@ use Rattle.pcap_classic.specs.Savefile.{Savefile, IsSavefile, IsRefusal}
 use Rattle.pcap_classic.specs.declared.header.CaptureFault.{CaptureFault}
 use Rattle.pcap_classic.specs.declared.header.CaptureFault.TheVariants as capture_fault
 use Rattle.cbpf_tool.specs.FileMap.{Held}
+use Rattle.cbpf_tool.specs.Loads.{with_failure}
 use Rattle.cbpf_dbg.specs.View.{View}
 use Rattle.cbpf_dbg.specs.Commands.{with_program_loaded, with_capture_loaded, breakpoint_when}
 use Rattle.cbpf_tool.specs.SessionReplies.{reply_to}
@@ -67,21 +68,21 @@ CanRunOut m (Breakpoint k when) = IsOk (breakpoint_when m k when) × (lookup (na
 CanRunOut m _ = ⊥
 
 -- a line to which the reply can be `error: out of memory`
-abbrev pub IsUnheld : View → Result (Option Command) CommandFault → Type 0
-IsUnheld m (Ok (Some (LoadWords text))) = Unit {0}
-IsUnheld m (Ok (Some (LoadCapture name))) = Unit {0}
-IsUnheld m (Ok (Some (Session c))) = CanRunOut m c
-IsUnheld m _ = ⊥
+abbrev pub CanBeUnheld : View → Result (Option Command) CommandFault → Type 0
+CanBeUnheld m (Ok (Some (LoadWords text))) = Unit {0}
+CanBeUnheld m (Ok (Some (LoadCapture name))) = Unit {0}
+CanBeUnheld m (Ok (Some (Session c))) = CanRunOut m c
+CanBeUnheld m _ = ⊥
 
 -- a line to which the reply can be F2
-abbrev pub IsUnread : Result (Option Command) CommandFault → Type 0
-IsUnread (Ok (Some (LoadCapture name))) = Unit {0}
-IsUnread _ = ⊥
+abbrev pub CanBeUnread : Result (Option Command) CommandFault → Type 0
+CanBeUnread (Ok (Some (LoadCapture name))) = Unit {0}
+CanBeUnread _ = ⊥
 
 -- a failure was counted, or the count stays at its greatest value; one failure, where they are counted exactly
 abbrev pub CountsFailure : Held → ℕ → ℕ → Type 0
 CountsFailure files f g = (f ≤ g) × ((f < g) ⊎ (f ≡ 2 ^ 64 - 1))
-    × (IsTrue files.counts_exactly → g ≡ min (f + 1) (2 ^ 64 - 1))
+    × (IsTrue files.counts_exactly → g ≡ with_failure f)
 
 -- no failure was counted, where they are counted exactly
 abbrev pub CountsNone : Held → ℕ → ℕ → Type 0
@@ -92,5 +93,6 @@ CountsNone files f g = (f ≤ g) × (IsTrue files.counts_exactly → g ≡ f)
 pub data LineReplies (files : Held) (m : View) (f g : ℕ) (said : Result (Option Command) CommandFault)
     (reply : Reply) : Type 0 where
   own : CountsNone files f g → OwnReply files m said reply → LineReplies files m f g said reply
-  unheld : CountsNone files f g → IsUnheld m said → reply ≡ (memory_text, m) → LineReplies files m f g said reply
-  unread : CountsFailure files f g → IsUnread said → reply ≡ (load_fault_text Device, m) → LineReplies files m f g said reply
+  unheld : CountsNone files f g → CanBeUnheld m said → reply ≡ (memory_text, m) → LineReplies files m f g said reply
+  unread : CountsFailure files f g → CanBeUnread said → reply ≡ (load_fault_text Device, m)
+      → LineReplies files m f g said reply

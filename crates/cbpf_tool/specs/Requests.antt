@@ -35,17 +35,17 @@ abbrev pub positive : ℕ → Option ℕ
 positive n = if n == 0 then None else Some n
 
 -- a number from 1 on
-abbrev pub packet_number : List ℕ → Option ℕ
-packet_number word = option_and_then positive (number_up_to (2 ^ 64 - 1) word)
+abbrev pub number_of_packet : List ℕ → Option ℕ
+number_of_packet word = option_and_then positive (number_up_to (2 ^ 64 - 1) word)
 
 -- the first packet is not above the last
 abbrev pub range_between : ℕ → ℕ → Option PacketRange
 range_between first last = if nat_le first last then Some (record { first = first; last = last }) else None
 
 abbrev pub range_by : Option (List ℕ × List ℕ) → List ℕ → Option PacketRange
-range_by None word = option_map (λ n. record { first = n; last = n }) (packet_number word)
+range_by None word = option_map (λ n. record { first = n; last = n }) (number_of_packet word)
 range_by (Some ends) word =
-    option_and_then (λ first. option_and_then (range_between first) (packet_number ends.1)) (packet_number ends.0)
+    option_and_then (λ first. option_and_then (range_between first) (number_of_packet ends.1)) (number_of_packet ends.0)
 
 -- a number, or a first and a last one with `-` between
 abbrev pub packet_range : List ℕ → Option PacketRange

@@ -56,7 +56,7 @@ fn split_once(word: &[u8], sign: u8) -> Option<(&[u8], &[u8])>
 
 /// A number that isn't 0.
 fn packet_number(word: &[u8]) -> Option<u64>
-    ensures { result ≡ spec.packet_number word.now }
+    ensures { result ≡ spec.number_of_packet word.now }
 {
     match number_up_to(word, u64::MAX) {
         Some(0) | None => None,
