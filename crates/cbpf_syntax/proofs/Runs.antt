@@ -1,7 +1,7 @@
 -- The piece at the front of a text, by its first byte.
 use Rattle.std.proofs.Common.{◌≡◌, ℕ, zero, suc, ◌+◌, ◌-◌, ◌<◌, ◌≤◌, Bool, true, false, not, cond, List, [], ◌∷◌, length}
-use Rattle.std.proofs.Common.{take, drop, refl, ap, ◌∙◌, arith, Some, None, length-take-le, take-take, rules}
-use Rattle.std.proofs.Common.{get_or, Option, eqb-true, inl, inr}
+use Rattle.std.proofs.Common.{take, refl, ap, ◌∙◌, arith, Some, None, length-take-le, take-take}
+use Rattle.std.proofs.Common.{Option, eqb-true, inl, inr}
 use Rattle.std.proofs.Math.Numerals.{one-add}
 use Rattle.std.specs.Prelude.{◌==◌, nat_le}
 use Rattle.std.specs.List.{list_all, prefix_len}
@@ -11,9 +11,8 @@ use Rattle.cbpf_syntax.specs.declared.token.Kind.TheVariants.{Word, Mark}
 use Rattle.cbpf_code.specs.WordTokens.{is_blank}
 use Rattle.cbpf_syntax.specs.Bytes.{is_name_byte}
 use Rattle.cbpf_syntax.specs.Pieces.{IsNext, piece_kind, led_kind, slash_kind, only_if, numeral_kind, alone, has_close}
-use Rattle.cbpf_syntax.specs.Pieces.{is_line_blank, close_after, comment_piece, slash_piece, led_piece}
+use Rattle.cbpf_syntax.specs.Pieces.{close_after, comment_piece, slash_piece, led_piece}
 use Rattle.cbpf_syntax.specs.Leads.{lead_of}
-use Rattle.cbpf_syntax.proofs.LeadTable.{blank_lead}
 use Rattle.cbpf_syntax.proofs.Comments.{close_taken, close_within}
 use Rattle.cbpf_syntax.specs.declared.token.BadPiece.TheVariants.{NoToken, OpenComment}
 use Rattle.cbpf_syntax.specs.declared.piece.Lead.{Lead}
@@ -22,10 +21,7 @@ use Rattle.std.proofs.lemmas.List.Sums.{prefix_len-le-length, prefix_len_stops}
 use Rattle.std.proofs.lemmas.List.Folds.{list_all_at}
 use Rattle.std.proofs.lemmas.Bool.{cases_Bool}
 use Rattle.std.proofs.lemmas.Bool.Decides.{nat_tests}
-use Rattle.std.proofs.lemmas.List.{drop_all, drop_more, get_or-take}
-use Rattle.cbpf_syntax.specs.declared.token.Token.{Token}
-use Rattle.cbpf_syntax.specs.Tokens.{LexesTo}
-use Rattle.cbpf_syntax.proofs.Cuts.{piece_at, piece_more}
+use Rattle.std.proofs.lemmas.List.{get_or-take}
 
 -- the run that prefix_len finds passes, and no longer one does
 pub run_whole : (p : ℕ → Bool) (bs : List ℕ) → list_all p (take (prefix_len p bs) bs) ≡ true
@@ -153,42 +149,3 @@ led_next fresh b bs Digit e =
 led_next fresh b bs Slash e = slash_next fresh b e bs
 led_next fresh b bs Single e = alone_next fresh (TokenOf (Mark b)) b bs (λ cs. ap (λ l. led_kind l b cs) e)
 led_next fresh b bs Other e = alone_next fresh (Bad NoToken) b bs (λ cs. ap (λ l. led_kind l b cs) e)
-
--- Blanks are passed over one by one. What is kept of the text is where their run ends.
-
--- where the run of blanks at a place ends
-abbrev pub run_end : List ℕ → ℕ → ℕ
-run_end text at = at + prefix_len is_blank (drop at text)
-
-pub run_at_end : (text : List ℕ) (at : ℕ) → length text ≤ at → run_end text at ≡ at
-run_at_end text at l = rw (drop_all at text l) (omega arith)
-
-pub run_of_none : (text : List ℕ) (at : ℕ) → at < length text → is_blank (get_or text at 0) ≡ false
-    → run_end text at ≡ at
-run_of_none text at l e = rw (drop_more text at 0 l, e) (omega arith)
-
--- the tokens up to a place are those up to the end of the blanks there
-pub over_blanks : (text : List ℕ) (from at : ℕ) → at < length text
-    → ((ts : List Token) → LexesTo text from ts → LexesTo text at ts) → (ts : List Token) → LexesTo text from ts
-    → LexesTo text (run_end text at) ts
-over_blanks text from at l more ts lexed = elim (cases_Bool (is_blank (get_or text at 0))) [
-  | inr e ↦ rw (run_of_none text at l e) (more ts lexed)
-  | inl e ↦
-      let fresh = is_line_blank (take at text) in
-      let b = get_or text at 0 in
-      let next = piece_at text at _ l (led_next fresh b (drop (at + 1) text) Blank (blank_lead fresh b e)) in
-      let size : run_end text at ≡ at + (1 + prefix_len is_blank (drop (at + 1) text)) =
-      rw (drop_more text at 0 l, e) refl in
-      rw size (piece_more text from at _ more next refl (λ k q. cc) ts lexed)
-]
-
-pub to_run_end : (text : List ℕ) (from at : ℕ) → at ≤ length text
-    → ((ts : List Token) → LexesTo text from ts → LexesTo text at ts) → (ts : List Token) → LexesTo text from ts
-    → LexesTo text (run_end text at) ts
-to_run_end text from at h1 h2 ts h3 = search (rules, run_at_end, over_blanks)
-
--- where no blank stands at the place, it is the end itself
-pub to_here : (text : List ℕ) (from at : ℕ) → at < length text → is_blank (get_or text at 0) ≡ false
-    → ((ts : List Token) → LexesTo text from ts → LexesTo text (run_end text at) ts) → (ts : List Token)
-    → LexesTo text from ts → LexesTo text at ts
-to_here text from at l e more ts lexed = rw (run_of_none text at l e) at (more ts lexed)

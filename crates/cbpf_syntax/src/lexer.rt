@@ -6,7 +6,6 @@ ghost use Rattle.cbpf_syntax.specs.TokenReading.{IsNextToken, HasNoMore, IsNextF
 
 use crate::piece::{PieceKind, bad_piece_of, next_piece};
 use crate::token::{LexFault, Token};
-use cbpf_code::is_blank;
 use std::alloc::Allocator;
 use std::marker::Model;
 
@@ -73,12 +72,7 @@ impl<'a> Lexer<'a> {
         let text = self.text;
         let mut at = self.at;
         while at < text.len() {
-            let first = text[at];
-            if is_blank(first) {
-                at += 1;
-                continue;
-            }
-            let piece = next_piece(&text[..at], first, &text[at + 1..]);
+            let piece = next_piece(&text[..at], text[at], &text[at + 1..]);
             let end = at + piece.size;
             if let Some(fault) = bad_piece_of(piece.kind) {
                 return Err(LexFault::At(fault, line_of(text, at)));

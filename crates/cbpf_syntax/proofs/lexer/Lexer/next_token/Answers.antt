@@ -1,23 +1,13 @@
-use Rattle.std.proofs.Common.{rules, arith, List, ◌≡◌, ◌∙◌, sym, subst, get_or, false}
-use Rattle.cbpf_code.specs.WordTokens.{is_blank}
+use Rattle.std.proofs.Common.{rules, arith, subst}
 use Rattle.cbpf_syntax.specs.Pieces.{IsPieceAt}
-use Rattle.cbpf_syntax.proofs.Runs.{to_run_end, to_here}
 use Rattle.cbpf_syntax.proofs.Cuts.{next_at, piece_within, piece_some, token_more, piece_more}
-use Rattle.cbpf_syntax.specs.declared.token.Token.{Token}
-use Rattle.cbpf_syntax.specs.Tokens.{LexesTo}
 use Rattle.cbpf_syntax.proofs.lexer.Lexer.next_token.Goals.{After-next_piece-piece}
 use Rattle.cbpf_syntax.proofs.lexer.Lexer.next_token.Goals as goal
 
--- the piece that comes next, and the tokens before it
+-- the piece that comes next
 here : (c : After-next_piece-piece) → IsPieceAt c.self.inside.text.now c.loop-at.at c.next_piece-piece.result
-    × ((ts : List Token) → LexesTo c.self.inside.text.now c.self.inside.at ts
-    → LexesTo c.self.inside.text.now c.loop-at.at ts)
-here c =
-    let text = c.self.inside.text.now in
-    let other : is_blank (get_or text c.loop-at.at 0) ≡ false = sym c.is_blank.ensures ∙ c.if-is_blank.false in (
-      next_at text c.loop-at.at c.next_piece-piece.result c.loop-at-test.true c.next_piece-piece.ensures,
-      to_here text c.self.inside.at c.loop-at.at c.loop-at-test.true other c.loop-at.invariant.more,
-    )
+here c = next_at c.self.inside.text.now c.loop-at.at c.next_piece-piece.result c.loop-at-test.true
+    c.next_piece-piece.ensures
 
 pub returns-in-Some-clause-fault : goal.returns-in-Some-clause-fault
 returns-in-Some-clause-fault c =
@@ -28,9 +18,9 @@ returns-in-Some-clause-fault c =
     rw (← c.self.view_is) (λ ts lexed. record {
       at = at;
       tokens = ts;
-      before = h.1 ts lexed;
+      before = c.loop-at.invariant.more ts lexed;
       size = piece.size;
-      bad = subst (λ k. IsPieceAt text at (record { kind = k; size = piece.size })) c.in-Some.ensures.bad h.0;
+      bad = subst (λ k. IsPieceAt text at (record { kind = k; size = piece.size })) c.in-Some.ensures.bad h;
       line = c.line_of.ensures;
     })
 
@@ -40,17 +30,15 @@ returns-in-TokenOf-clause-token c =
     let at = c.loop-at.at in
     let piece = c.next_piece-piece.result in
     let h = here (goal.at.returns-in-TokenOf-clause-token c).After-next_piece-piece in
-    let some = piece_some text at piece h.0 in
-    let within = piece_within text at piece c.loop-at-test.true h.0 in
+    let some = piece_some text at piece h in
+    let within = piece_within text at piece c.loop-at-test.true h in
     rw (← c.self.view_is) (record {
-      more = token_more text c.self.inside.at at piece c.in-TokenOf.kind h.1 h.0 c.in-TokenOf.is;
+      more = token_more text c.self.inside.at at piece c.in-TokenOf.kind c.loop-at.invariant.more h
+          c.in-TokenOf.is;
       span = (omega arith, within);
       farther = omega (arith, some, c.loop-at.invariant.from);
       within = within;
     })
-
-pub loop-at-init : goal.loop-at-init
-loop-at-init c = search (rules, to_run_end)
 
 pub loop-at-preserved : goal.loop-at-preserved
 loop-at-preserved c =
@@ -58,13 +46,13 @@ loop-at-preserved c =
     let at = c.loop-at.at in
     let piece = c.next_piece-piece.result in
     let h = here (goal.at.loop-at-preserved c).After-next_piece-piece in
-    let within = piece_within text at piece c.loop-at-test.true h.0 in
+    let within = piece_within text at piece c.loop-at-test.true h in
     record {
       same = c.loop-at.invariant.same;
       from = omega (arith, c.loop-at.invariant.from);
       within = within;
-      more = to_run_end text c.self.inside.at _ within (piece_more text c.self.inside.at at piece h.1 h.0
-          c.in_default.ensures.good c.in_default-kind.not-TokenOf);
+      more = piece_more text c.self.inside.at at piece c.loop-at.invariant.more h c.in_default.ensures.good
+          c.in_default-kind.not-TokenOf;
     }
 
 pub returns-clause-finished : goal.returns-clause-finished
