@@ -12,8 +12,9 @@ command are what it prints, on standard output and standard error. Where it take
 Of cbpf-shell each line after the prompt `cbpf> ` is typed.
 A line `..` stands for any lines. A command whose tool is missing, or may not do what it has to, isn't run; neither are its
 session, the commands after it in its block, and those that name a file which it makes by `> `.
-Each relative link of the Markdown documents names a file that is there, and the lines of the picture of docs/ARCHITECTURE.md, in
-its block ```crates, lead down from each crate to those below it by crates.txt, directly or not.
+Each relative link of the Markdown documents names a file that is there, and what stands after `#` is the anchor of one of
+its headings. The lines of the picture of docs/ARCHITECTURE.md, in its block ```crates, lead down from each crate to those
+below it by crates.txt, directly or not.
 The last line is `N passed, M failed`, and how many weren't run where there are such.
 """
 
@@ -142,10 +143,22 @@ def missing_tool(command):
     return next((tool for tool in TOOLS.split() if tool in words and not is_there(tool)), None)
 
 
+@cache
+def anchors(path):
+    """The anchors of a document's headings: lower case, with dashes for blanks and without other marks."""
+    text = re.sub(r"^```.*?^```", "", path.read_text(), flags=re.M | re.S)
+    headings = re.findall(r"^#+ (.*)", text, re.M)
+    return {re.sub(r"[^\w -]", "", heading.lower()).replace(" ", "-") for heading in headings}
+
+
 def broken_links(path):
-    targets = re.findall(r"\]\(([^)\s]+)\)", path.read_text())
-    names = [target.split("#")[0] for target in targets if "://" not in target]
-    return [name for name in names if name and not (path.parent / name).exists()]
+    broken = []
+    for target in re.findall(r"\]\(([^)\s]+)\)", path.read_text()):
+        name, _, anchor = target.partition("#")
+        file = path.parent / name if name else path
+        if "://" not in target and (not file.exists() or (anchor and anchor not in anchors(file))):
+            broken.append(target)
+    return broken
 
 
 def below(arrows):
@@ -196,7 +209,7 @@ def main():
     others = {TOP / "CONTRIBUTING.md", *(TOP / "docs").glob("*.md")} - set(REQUIRED)
     passed = failed = not_run = 0
     for path in [Path(name).resolve() for name in sys.argv[2:]] or [*REQUIRED, *sorted(others)]:
-        faults = [f"no file {name}" for name in broken_links(path)] if path.suffix == ".md" else []
+        faults = [f"no file or heading {target}" for target in broken_links(path)] if path.suffix == ".md" else []
         if path.name == "ARCHITECTURE.md":
             faults += [f"{a} over {b}: not the same in crates.txt" for a, b in crates_differ(path)]
         with tempfile.TemporaryDirectory() as folder:
