@@ -5,7 +5,7 @@ use Rattle.std.specs.List.{flat_map}
 use Rattle.cbpf_code.specs.Text.{concat, spaces, hex}
 use Rattle.cbpf_code.specs.declared.insn.Insn.{Insn}
 
--- in front of a number's hexadecimal digits: a number that is 0 has zeros alone
+-- in front of a number's hexadecimal digits, as `%#04x` and `%#010x` of printf have it: 0 has no `0x`, but is as wide
 abbrev pub hex_prefix : ℕ → List ℕ
 hex_prefix n = if n == 0 then codes "00" else codes "0x"
 

@@ -60,7 +60,7 @@ ShiftsTooFar op insn = IsTrue (shifts_by_k op) × (32 ≤ insn.k)
 abbrev pub JumpsOutside : Op → Insn → ℕ → ℕ → Type 0
 JumpsOutside op insn i n = (t : ℕ) × IsTarget op insn i t × (n ≤ t)
 
--- C8: the place is one of extensions, and none has it
+-- C8: an absolute load whose k is 0xfffff000 or more, and no extension has this place
 abbrev pub LoadsNoExtension : Op → Insn → Type 0
 LoadsNoExtension op insn = IsTrue (loads_absolute op) × (FIRST_EXTENSION ≤ insn.k) × (ext_at insn.k ≡ None)
 

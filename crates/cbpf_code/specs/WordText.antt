@@ -90,7 +90,7 @@ pub record Miscounts (text : List ℕ) (e : WordFault) : Type 0 where
   pub differs : count_of text ≢ length (list_of text)
   pub fault : e ≡ CountDiffers (count_of text) (length (list_of text))
 
--- the fault that the text has; out of memory only says that it has the numbers of an instruction
+-- the fault that the text has; `Memory` only says that a count and the four numbers of an instruction are there
 abbrev pub Refused : List ℕ → WordFault → Type 0
 Refused text Memory = 5 ≤ length (numbers (tokens text))
 Refused text e = (fault_of text ≡ Some e) ⊎ Miscounts text e

@@ -74,8 +74,7 @@ asked_by (Some sub) = if bytes_eq sub.0 (codes "asm") then asm_asked sub.1 else 
 unfoldable pub asked_for : List Text → Asked
 asked_for words = asked_by (subcommand_of cbpf_app words)
 
--- the kinds of faults that the words may have for the program without `why`, of which there are none where they are
--- taken
+-- the kinds of faults that the words may have for the program without `why`; only words without a fault are taken
 unfoldable pub faults_in : List Text → List ErrorKind
 faults_in words = fault_of cbpf_app words
 

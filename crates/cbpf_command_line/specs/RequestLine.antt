@@ -121,7 +121,8 @@ names_why words = is_why (subcommand_of wide_app words)
 unfoldable pub requested_for : List Text → Requested
 requested_for words = requested_by (subcommand_of wide_app words)
 
--- the kinds of faults that the words may have for the program with `why`, whose own words are still texts here
+-- the kinds of faults that the words may have for the program with `why`; what the texts after `why` spell isn't
+-- checked here
 unfoldable pub request_faults : List Text → Kinds
 request_faults words = or_else (fault_of wide_app words) (conflict_by (subcommand_of wide_app words))
 
@@ -140,7 +141,7 @@ abbrev pub request_meaning : RequestWords → Requested
 request_meaning (request.Job j) = job (meaning j)
 request_meaning (request.Why w) = why (why_meaning w)
 
--- words that don't name `why` are answered as by the program's command without it
+-- a line that doesn't name `why` gets the answer of the program without `why`
 abbrev pub AnswersAsBefore : List Text → Result RequestWords LineFault → Type 0
 AnswersAsBefore words result = names_why words ≡ false
     → MatchResult result (λ r. (request_meaning r ≡ job (asked_for words)) × (faults_in words ≡ []))

@@ -66,18 +66,20 @@ limited m machine capture next =
 
 -- ---- run
 
--- no hit comes before the limit
+-- no stop comes before the limit
 abbrev pub run_out : View → Machine → List Record → Option ℕ → RunReply × View
 run_out m machine capture None = finished m machine capture
 run_out m machine capture (Some n) =
     if nat_le (m.place.packet + n) (length capture) then limited m machine capture (m.place.packet + n)
     else finished m machine capture
 
+-- a stop so many packets after the place's is within the limit; a limit of n covers the place's packet and the n - 1
+-- after it
 abbrev pub within_limit : Option ℕ → ℕ → Bool
 within_limit None packets = true
 within_limit (Some n) packets = nat_lt packets n
 
--- by the hits that are ahead
+-- the answer with these stops ahead: the first of them where it is within the limit
 abbrev pub run_to : View → Machine → List Record → Option ℕ → List Stop → RunReply × View
 run_to m machine capture limit [] = run_out m machine capture limit
 run_to m machine capture limit (h ∷ hits) =
@@ -87,7 +89,7 @@ abbrev pub run_in : View → Machine → List Record → Option ℕ → Answer R
 run_in m machine capture (Some zero) = Err fault.ZeroCount
 run_in m machine capture limit = Ok (run_to m machine capture limit (stops_after machine capture m.breakpoints m.place))
 
--- on to the first hit ahead, or up to a limit of packets, where there is one, or to the end
+-- on to the first stop ahead, or up to a limit of packets, where there is one, or to the end
 abbrev pub run : View → Option ℕ → Answer RunReply
 run m limit = loaded m (λ machine capture. run_in m machine capture limit)
 
@@ -167,14 +169,14 @@ abbrev pub IsResumable : View → Place → Type 0
 IsResumable m place = (n : View) → n.program ≡ m.program → n.values ≡ m.values → n.capture ≡ m.capture
     → IsOk (resume n place) ⊎ (resume n place ≡ Err fault.NoPackets)
 
--- ---- hits
+-- ---- stops ahead
 
--- the hits ahead
+-- the stops ahead
 abbrev pub stops : View → Result (List Stop) SessionFault
 stops m = loaded m (λ machine capture. Ok (stops_after machine capture m.breakpoints m.place))
 
--- how a run's answer goes with the hits ahead before it and after it: a stop is the first of them,
--- and the others stay; up to a limit there is none; and at the end there is none left
+-- how a run's answer fits the stops ahead before it and after it: a stop is the first of them, and the others stay;
+-- up to a limit there is none; and at the end there is none left
 abbrev pub PassesHits : RunReply → List Stop → List Stop → Type 0
 PassesHits (Stopped h) before after = before ≡ h ∷ after
 PassesHits (Limit n) before after = before ≡ after
@@ -195,7 +197,7 @@ abbrev pub run_to_end : View → Answer Counts
 run_to_end m = loaded m (λ machine capture.
     Ok (counts machine capture m.origin (length capture + 1), record m { place = start; origin = 1 }))
 
--- all hits, from the start
+-- all stops, from the start
 abbrev pub all_stops : View → Result (List Stop) SessionFault
 all_stops m = loaded m (λ machine capture. Ok (stops_in machine capture m.breakpoints))
 
@@ -264,7 +266,8 @@ abbrev pub turns_in : View → Machine → List Record → RunReply × View → 
 turns_in m machine capture (Finished n, after) = turns_to_end machine capture m.place
 turns_in m machine capture (_, after) = turns_between machine capture m.place after.place
 
--- the turns of `run`, and of `step` forward: the entries that the call leaves, and 0 after a refusal
+-- the turns of `run`, and of `step` forward: the entries that the call leaves behind, the one at its place included; 0
+-- after a refusal
 abbrev pub turns_forward : View → Answer RunReply → ℕ
 turns_forward m answer =
     result_unwrap_or (loaded m (λ machine capture. result_map_both (turns_in m machine capture) (λ e. e) answer)) 0
@@ -273,8 +276,8 @@ turns_forward m answer =
 abbrev pub turns_left : View → ℕ
 turns_left m = result_unwrap_or (loaded m (λ machine capture. Ok (turns_to_end machine capture m.place))) 0
 
--- how many turns a place takes: those from the packet's start to its step, twice; of the refusals only the one that
--- counts the packet's steps makes turns, one for each
+-- how many turns a place takes: those from the packet's start to its step, once to see that the step exists and once to
+-- fill the trail; of the refusals only the one that counts the packet's steps makes turns, one for each
 abbrev pub turns_to_resume : ℕ → Result (Unit {0}) SessionFault → ℕ
 turns_to_resume s (Ok u) = 2 * (s - 1)
 turns_to_resume s (Err (fault.NoStep n)) = n

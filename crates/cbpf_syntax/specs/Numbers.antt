@@ -36,7 +36,7 @@ abbrev pub number_value : List ℕ → Option ℕ
 number_value [] = None
 number_value (b ∷ bs) = if b == 48 then zero_led_value bs else digits_value 10 0 (b ∷ bs)
 
--- the least number that no literal has
+-- the least number that is too large for a literal
 abbrev pub number_limit : ℕ
 number_limit = 2 ^ 32
 

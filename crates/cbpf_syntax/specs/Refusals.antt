@@ -14,7 +14,7 @@ pub data ParseFault : Type 0 where
   LargeNegative : ParseFault
   Unfinished : ParseFault
 
--- what the token at the place says
+-- what the token at the index says
 abbrev pub symbol_at : List Lexeme → ℕ → Option Symbol
 symbol_at ts i = option_map (λ (t : Lexeme). t.symbol) (slice_get ts i)
 
@@ -33,7 +33,7 @@ abbrev pub is_large : Option Symbol → Option Symbol → Bool
 is_large (Some (mark b)) (Some (number n)) = b == 45 && nat_lt most_negative n
 is_large sign digits = false
 
--- the number at the place is too large after the `-` before it
+-- the number at the index is too large after the `-` before it
 abbrev pub is_large_at : List Lexeme → ℕ → Bool
 is_large_at ts zero = false
 is_large_at ts (suc i) = is_large (symbol_at ts i) (symbol_at ts (suc i))
@@ -42,7 +42,7 @@ is_large_at ts (suc i) = is_large (symbol_at ts i) (symbol_at ts (suc i))
 abbrev pub IsLargeNegative : List Lexeme → ℕ → Type 0
 IsLargeNegative ts i = is_large_at ts i ≡ true
 
--- A5: the tokens begin items and are none
+-- A5: the tokens begin items and aren't items
 pub record IsUnfinished (ts : List Lexeme) : Type 0 where
   pub begins : BeginsItems ts
   pub none : (items : List Item) → Items ts items → ⊥

@@ -24,7 +24,8 @@ pub record Row : Type 0 where
   pub mnemonic : List ℕ
   pub operand : List Class
   pub op : Op
-  -- the literal goes to k; targets go to k with `Goto`, to jt and jf with `Branch`, and to jf with `Swapped`
+  -- The literal goes to k. `Constant`: there is no target. `Goto`: the target goes to k. `Branch`: the first target
+  -- goes to jt, and a second one to jf. `Swapped`: the target goes to jf, as the jump goes where the comparison fails.
   pub fields : Fields
 
 -- the classes of the mnemonic and of its operand
@@ -184,7 +185,8 @@ abbrev pub arithmetic : AluOp → Mnemonic
 arithmetic op = mnemonic (mnemonic_of (Alu op src.K))
     (entry immediate (Alu op src.K) Constant ∷ entry x_operand (Alu op src.X) Constant ∷ [])
 
--- all mnemonics
+-- All mnemonics, in this order: ld ldh ldb ldi ldx ldxi ldxb st stx jmp ja jeq jgt jge jset jneq jne jlt jle add sub
+-- mul div mod and or xor lsh rsh neg tax txa ret. `jlt` goes where `jge` fails, and `jle` where `jgt` fails.
 unfoldable pub mnemonics : List Mnemonic
 mnemonics =
     mnemonic (mnemonic_of LdImm)

@@ -1,4 +1,4 @@
--- What the log of a machine in memory says (this project's own).
+-- What the log of a host in memory says (this project's own).
 use Rattle.cbpf_tool.specs.Hosted.{Event, opened, not_opened, created, not_created, wrote, printed}
 use Rattle.cbpf_tests.specs.declared.done.Done.{Done}
 use Rattle.cbpf_tests.specs.declared.done.Done.TheVariants.{Opened, NotOpened, Created, NotCreated, Wrote, Printed}

@@ -31,11 +31,11 @@ abbrev pub EachAnswered : Type 0
 EachAnswered = (text : List ℕ) → ((xs : List Insn) × Assembles text xs)
     ⊎ ((kind : AsmKind) × (line : ℕ) × IsRefused text (At kind line))
 
--- a list in which the checker finds no fault, of instructions whose fields are in their types' ranges
+-- the listing of a sound list, whose fields are in their types' ranges, assembles to the plain forms
 abbrev pub ListingAssembles : Type 0
 ListingAssembles = (list : List Insn) → IsSound list → All InRange list → Assembles (listing list) (map plain list)
 
--- whatever an assembler answers to its listing: the plain forms, or out of memory
+-- whatever an assembler answers to the listing of such a list: the plain forms, or out of memory
 abbrev pub ListingAnswers : Type 0
 ListingAnswers = (list : List Insn) → IsSound list → All InRange list → (answer : Result (List Insn) AsmFault)
     → IfOk answer (λ insns. Assembles (listing list) insns) → IfErr answer (IsRefused (listing list))

@@ -72,8 +72,8 @@ uses_fault labels (u ∷ us) = option_or (use_fault labels u) (uses_fault labels
 abbrev pub mnemonic_at : Item → ℕ
 mnemonic_at item = option_map_or (λ (t : Lexeme). t.at) (slice_get item.body 0) 0
 
--- Why items are refused, and the place in the text that shows it: there is none; there are more than
--- MAX_INSTRUCTIONS, and the place is that of the one after these; a label is set twice; or a use is refused.
+-- Why items are refused, and the place in the text that shows it. There is no item, at place 0; there are more than
+-- MAX_INSTRUCTIONS, at the mnemonic of the first that is too many; a label is set twice; or a use is refused.
 abbrev pub items_fault : List Item → Option (AsmKind × ℕ)
 items_fault [] = Some (kinds.NoInstruction, 0)
 items_fault items =

@@ -9,7 +9,7 @@ use Rattle.cbpf_tool.specs.declared.fault.ToolFault.{ToolFault}
 use Rattle.cbpf_tool.specs.declared.fault.ToolFault.TheVariants.{Source as RefusedSource, Read, Write, Memory}
 
 -- the first lines of a script, those after them, and the output of the first ones, from a debugger that has loaded
--- nothing
+-- nothing; `old` and `new` are the source of files before and after, and below they are what the writer holds
 pub record Printed (script : List ℕ) (old new : Source) : Type 0 where
   pub ls : List (List ℕ)
   pub more : List (List ℕ)

@@ -1,4 +1,4 @@
--- What a machine on which a job runs holds, and what was done with it (this project's own). The files are those
+-- What a host on which a job runs holds, and what was done with it (this project's own). The files are those
 -- that can be read: what is created or written doesn't change them.
 use Rattle.std.specs.Prelude.{◌≡◌, ℕ, Bool, false, IsTrue, List, [], ◌∷◌, ◌++◌, Option, Some, Result, Ok, Err}
 use Rattle.std.specs.FinMap as map
@@ -6,7 +6,7 @@ use Rattle.cbpf_tool.specs.FileMap.{FileMap}
 use Rattle.cbpf_tool.specs.declared.host.CreateFault.{CreateFault}
 use Rattle.cbpf_tool.specs.declared.host.CreateFault.TheVariants.{NotCreated, Memory}
 
--- what is done with a machine: a file is opened, created or written, or not, or a text goes to the standard output
+-- what is done with a host: a file is opened, created or written, or not, or a text goes to the standard output
 pub data Event : Type 0 where
   opened : (name : List ℕ) → Event
   not_opened : (name : List ℕ) → Event
@@ -15,7 +15,7 @@ pub data Event : Type 0 where
   wrote : (name text : List ℕ) → Event
   printed : (text : List ℕ) → Event
 
--- whether it is known what the machine holds, the files that can be read, what is left of the standard input, whether the
+-- whether it is known what the host holds, the files that can be read, what is left of the standard input, whether the
 -- standard output can still be given, and the events so far
 pub record Hosted : Type 0 where
   pub is_known : Bool
@@ -24,11 +24,11 @@ pub record Hosted : Type 0 where
   pub has_output : Bool
   pub events : List Event
 
--- a machine of which it is not known what it holds
+-- a host of which it is not known what it holds
 abbrev pub unknown : Hosted
 unknown = record { is_known = false; files = map.empty; input = []; has_output = false; events = [] }
 
--- the machine after these events too
+-- the host after these events too
 abbrev pub and_then : Hosted → List Event → Hosted
 and_then h es = record h { events = h.events ++ es }
 
@@ -40,7 +40,7 @@ without_input h = record h { input = [] }
 abbrev pub without_output : Hosted → Hosted
 without_output h = record h { has_output = false }
 
--- it is known what the machine holds, and its standard output was not given
+-- it is known what the host holds, and its standard output was not given
 abbrev pub IsReady : Hosted → Type 0
 IsReady h = IsTrue h.is_known × IsTrue h.has_output
 

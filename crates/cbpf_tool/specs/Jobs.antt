@@ -1,4 +1,4 @@
--- What the jobs do on a machine: what is opened, created and written, in which order, and which fault ends
+-- What the jobs do on a host: what is opened, created and written, in which order, and which fault ends
 -- a job (this project's own).
 use Rattle.std.specs.Prelude.{◌≡◌, ◌⊎◌, ℕ, List, [], ◌∷◌, Option, Some, None, Result, Ok, Err, string_bytes}
 use Rattle.std.specs.FinMap as map
@@ -18,7 +18,7 @@ abbrev pub tooled : Result (Unit {0}) ToolFault → Result (Unit {0}) Failure
 tooled (Ok x) = Ok x
 tooled (Err e) = Err (Tool e)
 
--- the name of the file that could not be opened
+-- the name of the file that could not be opened or created
 abbrev pub unopened : Result (Unit {0}) Failure → Option (List ℕ)
 unopened (Ok x) = None
 unopened (Err (Tool e)) = None
@@ -40,7 +40,7 @@ abbrev pub Prints : Hosted → Hosted → (List ℕ → Result (Unit {0}) ToolFa
     → Type 0
 Prints old new Done r = RunsTool (without_output old) new printed Done r
 
--- the one event is that a file of this name could not be opened, which ends the job
+-- the one event is that a file of this name could not be opened or created, which ends the job
 abbrev pub EndsUnopened : Hosted → Hosted → List ℕ → Event → Result (Unit {0}) Failure → Type 0
 EndsUnopened old new name event r = (unopened r ≡ Some name) × (new ≡ and_then old (event ∷ []))
 
@@ -48,7 +48,7 @@ EndsUnopened old new name event r = (unopened r ≡ Some name) × (new ≡ and_t
 abbrev pub AssembledTo : List ℕ → Form → List ℕ → Result (Unit {0}) ToolFault → Type 0
 AssembledTo source form text t = Assembled source form (Some []) (Some text) t
 
--- a script was run over the machine's files
+-- a script was run over the host's files, and `g` is the source of files afterwards
 abbrev pub DebuggedTo : Hosted → List ℕ → List ℕ → Result (Unit {0}) ToolFault → Type 0
 DebuggedTo h script text t =
     (left : Option (List ℕ)) × (g : Source) × Debugged script left (Some []) (Some text) (known_source h.files 0) g t

@@ -67,14 +67,14 @@ abbrev pub CanRunOut : View → SessionCommand → Type 0
 CanRunOut m (Breakpoint k when) = IsOk (breakpoint_when m k when) × (lookup (nat_eq k) m.breakpoints ≡ None)
 CanRunOut m _ = ⊥
 
--- a line to which the reply can be `error: out of memory`
+-- a line to which the reply can be `error: out of memory`; that it is, isn't said here
 abbrev pub CanBeUnheld : View → Result (Option Command) CommandFault → Type 0
 CanBeUnheld m (Ok (Some (LoadWords text))) = Unit {0}
 CanBeUnheld m (Ok (Some (LoadCapture name))) = Unit {0}
 CanBeUnheld m (Ok (Some (Session c))) = CanRunOut m c
 CanBeUnheld m _ = ⊥
 
--- a line to which the reply can be F2
+-- a line to which the reply can be F2; that it is, isn't said here
 abbrev pub CanBeUnread : Result (Option Command) CommandFault → Type 0
 CanBeUnread (Ok (Some (LoadCapture name))) = Unit {0}
 CanBeUnread _ = ⊥
@@ -89,7 +89,7 @@ abbrev pub CountsNone : Held → ℕ → ℕ → Type 0
 CountsNone files f g = (f ≤ g) × (IsTrue files.counts_exactly → g ≡ f)
 
 -- a line's reply, while the count of failures goes from f to g: its own, or in its place `error: out of memory`
--- or F2. A failure is counted at F2; where failures are counted exactly, it is one, and there is none at the others
+-- or F2. The source counts the loads that ended in F2; one that doesn't count exactly may raise its count elsewhere too
 pub data LineReplies (files : Held) (m : View) (f g : ℕ) (said : Result (Option Command) CommandFault)
     (reply : Reply) : Type 0 where
   own : CountsNone files f g → OwnReply files m said reply → LineReplies files m f g said reply

@@ -105,7 +105,7 @@ abbrev pub faults_by : Requested → Kinds
 faults_by (job asked) = []
 faults_by (why asked) = why_faults asked
 
--- the kinds of faults that a command line may have with what its words spell, of which there are none where it is taken
+-- the kinds of faults that a command line may have, also by what its words spell; only a line without a fault is taken
 unfoldable pub line_faults : List (List ℕ) → Kinds
 line_faults words = or_else (request_faults words) (faults_by (requested_for words))
 
@@ -119,7 +119,7 @@ report_by (Some detail.Graph) has_packets = report.Graph
 report_by None true = report.Ways
 report_by None false = report.Summary
 
--- what `why` is asked is this job
+-- this job is what the words of `why` ask for
 pub record IsWhyJob (asked : WhyAsked) (j : WhyJob) : Type 0 where
   pub report : j.report ≡ report_by asked.detail (nat_lt 0 (length asked.packets))
   pub values : j.values ≡ values_by asked.values

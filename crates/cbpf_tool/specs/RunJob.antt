@@ -1,4 +1,4 @@
--- What a job or a request of the command line does on a machine, and the status with which the program ends
+-- What a job or a request of the command line does on a host, and the status with which the program ends
 -- (this project's own).
 use Rattle.std.specs.Prelude.{◌≡◌, ℕ, Bool, true, false, not, if◌then◌else◌, Option, Some, None, Result, Ok, Err, string_bytes}
 use Rattle.std.specs.Option.{option_map}

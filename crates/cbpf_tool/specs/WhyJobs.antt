@@ -1,4 +1,4 @@
--- What `why` does on a machine: what is opened, read and printed, in which order, and which fault ends it (this
+-- What `why` does on a host: what is opened, read and printed, in which order, and which fault ends it (this
 -- project's own).
 use Rattle.std.specs.Prelude.{◌≡◌, ◌≢◌, ◌⊎◌, ℕ, if◌then◌else◌, List, [], ◌∷◌, Option, Some, None, Result, Ok, Err}
 use Rattle.std.specs.Prelude.{MatchResult, bytes_eq, codes, string_bytes}

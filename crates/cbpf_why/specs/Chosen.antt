@@ -8,7 +8,7 @@ use Rattle.cbpf_why.specs.declared.chosen.PacketRange.{PacketRange}
 abbrev pub is_within : ℕ → PacketRange → Bool
 is_within n range = nat_le range.first n && nat_le n range.last
 
--- what is left of a range beyond the first packets, where anything is
+-- the numbers of a range above `count`, if there are any; a capture of `count` packets lacks these
 abbrev pub beyond : ℕ → PacketRange → Option PacketRange
 beyond count range =
     if nat_le range.first range.last && nat_lt count range.last

@@ -24,7 +24,7 @@ kind_of (outcome_is.Pass v) = verdict_is.Pass
 kind_of outcome_is.Fail = verdict_is.Fail
 kind_of (outcome_is.Unknown e) = verdict_is.Unknown
 
--- what it means for a packet that it ends in this way
+-- the verdict on a packet that ends for this reason: the kind of the outcome of its last turn
 abbrev pub verdict_of : End → Verdict
 verdict_of reason = kind_of (outcome_of (turn_of reason))
 

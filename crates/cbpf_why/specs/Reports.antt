@@ -36,7 +36,7 @@ packet_text Graph m r = []
 abbrev pub cut_line : CaptureEnd → List ℕ
 cut_line e = cut_text e.count e.ending
 
--- what is written of all packets, after the last one, and of how the capture ends where that is shown
+-- what is written of all packets, after the last one; the summary also says where the capture is cut, if it is
 abbrev pub closing_text : Report → Machine → List Record → Option CaptureEnd → List ℕ
 closing_text Summary m records end =
     groups_text m.list (ends_of m records)
@@ -57,7 +57,7 @@ end_after count ending = record { count = count; ending = ending }
 abbrev pub capture_end : Savefile → CaptureEnd
 capture_end c = end_after (length c.records) c.ending
 
--- how the capture ends is shown where all packets are looked at
+-- how the capture ends, where all packets are looked at; the summary alone writes it, and only of a cut capture
 abbrev pub shown_end : List PacketRange → Option CaptureEnd → Option CaptureEnd
 shown_end [] end = end
 shown_end (range ∷ ranges) end = None
@@ -80,8 +80,8 @@ goes_to_end ranges count = (length ranges == 0) || list_any (ends_beyond count) 
 abbrev pub end_read : List PacketRange → Savefile → Option CaptureEnd
 end_read ranges c = if goes_to_end ranges (length c.records) then Some (capture_end c) else None
 
--- a fault of reading after so many packets: what was to be written of them one by one was written, and nothing of all
--- packets together
+-- a failed read, or out of memory, after so many packets: the texts of those that are looked at were written, and no
+-- closing text
 pub record WroteFront (report : Report) (ranges : List PacketRange) (m : Machine) (c : Savefile) (count : ℕ)
     (old new : Option (List ℕ)) : Type 0 where
   pub few : count ≤ length c.records

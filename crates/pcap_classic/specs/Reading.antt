@@ -18,7 +18,7 @@ pub record Reading : Type 0 where
   pub ended : Option Ending
   pub left : Option Savefile
 
--- the next record is longer than the room at first, or it is cut in its data
+-- the next record takes with its header more than ROOM, which is 131,072 bytes, or it is cut in its data
 abbrev pub NeedsRoom : List Record → Ending → Type 0
 NeedsRoom (next ∷ rest) how = ROOM < RECORD_HEADER + length next.bytes
 NeedsRoom [] how = (place : ℕ) × (how ≡ CutData place)
