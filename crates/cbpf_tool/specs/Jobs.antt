@@ -41,8 +41,8 @@ abbrev pub Prints : Hosted → Hosted → (List ℕ → Result (Unit {0}) ToolFa
 Prints old new Done r = RunsTool (without_output old) new printed Done r
 
 -- the one event is that a file of this name could not be opened or created, which ends the job
-abbrev pub EndsUnopened : Hosted → Hosted → List ℕ → Event → Result (Unit {0}) Failure → Type 0
-EndsUnopened old new name event r = (unopened r ≡ Some name) × (new ≡ and_then old (event ∷ []))
+abbrev pub EndsWithoutFile : Hosted → Hosted → List ℕ → Event → Result (Unit {0}) Failure → Type 0
+EndsWithoutFile old new name event r = (unopened r ≡ Some name) × (new ≡ and_then old (event ∷ []))
 
 -- a source was assembled in a form
 abbrev pub AssembledTo : List ℕ → Form → List ℕ → Result (Unit {0}) ToolFault → Type 0
@@ -56,19 +56,19 @@ DebuggedTo h script text t =
 -- `asm`: the source is the standard input, or the file, which is opened first
 abbrev pub AsmJob : Hosted → Hosted → Form → Option (List ℕ) → Result (Unit {0}) Failure → Type 0
 AsmJob old new form None r = Prints (without_input old) new (AssembledTo old.input form) r
-AsmJob old new form (Some name) r = EndsUnopened old new name (not_opened name) r
+AsmJob old new form (Some name) r = EndsWithoutFile old new name (not_opened name) r
     ⊎ ((bytes : List ℕ) × (map.get old.files name ≡ Some bytes)
     × Prints (and_then old (opened name ∷ [])) new (AssembledTo bytes form) r)
 
 -- the replies go to the standard output, or to the file, which is created
 abbrev pub RepliesTo : Hosted → Hosted → List ℕ → Option (List ℕ) → Result (Unit {0}) Failure → Type 0
 RepliesTo old new script None r = Prints old new (DebuggedTo old script) r
-RepliesTo old new script (Some name) r = EndsUnopened old new name (not_created name) r
+RepliesTo old new script (Some name) r = EndsWithoutFile old new name (not_created name) r
     ⊎ RunsTool (and_then old (created name ∷ [])) new (wrote name) (DebuggedTo old script) r
 
 -- `dbg`: the script is the standard input, or the file, which is opened before the other is created
 abbrev pub DbgJob : Hosted → Hosted → Option (List ℕ) → Option (List ℕ) → Result (Unit {0}) Failure → Type 0
 DbgJob old new None output r = RepliesTo (without_input old) new old.input output r
-DbgJob old new (Some name) output r = EndsUnopened old new name (not_opened name) r
+DbgJob old new (Some name) output r = EndsWithoutFile old new name (not_opened name) r
     ⊎ ((bytes : List ℕ) × (map.get old.files name ≡ Some bytes)
     × RepliesTo (and_then old (opened name ∷ [])) new bytes output r)
