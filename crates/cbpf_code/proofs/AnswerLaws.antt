@@ -16,7 +16,7 @@ use Rattle.cbpf_code.specs.declared.words.WordFault.{WordFault}
 use Rattle.cbpf_code.specs.declared.words.WordFault.TheVariants.{Memory, CountDiffers}
 use Rattle.cbpf_code.specs.Opcode.{op_of}
 use Rattle.cbpf_code.specs.Faults.{NamesNoSlot, HasFault, FirstFault, rank, index_of, uses_slot, shifts_by_k}
-use Rattle.cbpf_code.specs.Faults.{DividesByZero, ShiftsTooFar, JumpsOutside, LoadsNoExtension, IsEarlier, divides_by_k}
+use Rattle.cbpf_code.specs.Faults.{DividesByZero, ShiftsTooFar, JumpsOutside, LoadsUnknownExtension, IsEarlier, divides_by_k}
 use Rattle.cbpf_code.specs.CheckSteps.{PassesBefore, IsAllowed, AllowedAt}
 use Rattle.cbpf_code.specs.WordTokens.{tokens}
 use Rattle.cbpf_code.specs.WordText.{count, fault_of}
@@ -43,7 +43,7 @@ jumps_outside (Jump cond src) insn i n = elim (at_most n (i + 1 + insn.jt)) [
 ]
 jumps_outside _ insn i n = inr (λ h. h.1)
 
-loads_no_extension : (op : Op) (insn : Insn) → Decided (LoadsNoExtension op insn)
+loads_no_extension : (op : Op) (insn : Insn) → Decided (LoadsUnknownExtension op insn)
 loads_no_extension op insn = grind (arith, both, is_true, at_most, is_none)
 
 -- the instruction at i is allowed, or has a fault of C3 to C8
@@ -51,7 +51,7 @@ abbrev FaultAt : List Insn → ℕ → Type 0
 FaultAt list i = (e : CheckFault) × HasFault list e × (rank e ≡ 2) × (index_of e ≡ i)
 
 allowed : (op : Op) (insn : Insn) (i n : ℕ) → (NamesNoSlot op insn → ⊥) → (DividesByZero op insn → ⊥)
-    → (ShiftsTooFar op insn → ⊥) → (JumpsOutside op insn i n → ⊥) → (LoadsNoExtension op insn → ⊥)
+    → (ShiftsTooFar op insn → ⊥) → (JumpsOutside op insn i n → ⊥) → (LoadsUnknownExtension op insn → ⊥)
     → IsAllowed op insn i n
 allowed op insn i n a b c d e (NoSlot at) h = a h
 allowed op insn i n a b c d e (ZeroDivisor at) h = b h

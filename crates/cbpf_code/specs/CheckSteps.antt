@@ -9,7 +9,7 @@ use Rattle.cbpf_code.specs.declared.checker.CheckFault.TheVariants.{JumpOutside,
 use Rattle.cbpf_code.specs.declared.checker.TheConstants.{MAX_INSTRUCTIONS}
 use Rattle.cbpf_code.specs.ControlFlow.{InsnAt}
 use Rattle.cbpf_code.specs.Faults.{HasFault, IsEarlier, rank, NamesNoSlot, DividesByZero, ShiftsTooFar, JumpsOutside}
-use Rattle.cbpf_code.specs.Faults.{LoadsNoExtension}
+use Rattle.cbpf_code.specs.Faults.{LoadsUnknownExtension}
 
 -- an instruction of a known code, at i of n, has this fault of its own
 abbrev pub InsnHasFault : Op → Insn → ℕ → ℕ → CheckFault → Type 0
@@ -17,7 +17,7 @@ InsnHasFault op insn i n (NoSlot at) = NamesNoSlot op insn
 InsnHasFault op insn i n (ZeroDivisor at) = DividesByZero op insn
 InsnHasFault op insn i n (WideShift at) = ShiftsTooFar op insn
 InsnHasFault op insn i n (JumpOutside at) = JumpsOutside op insn i n
-InsnHasFault op insn i n (UnknownExtension at) = LoadsNoExtension op insn
+InsnHasFault op insn i n (UnknownExtension at) = LoadsUnknownExtension op insn
 InsnHasFault op insn i n _ = ⊥
 
 -- it has none

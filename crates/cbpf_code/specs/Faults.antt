@@ -61,8 +61,8 @@ abbrev pub JumpsOutside : Op → Insn → ℕ → ℕ → Type 0
 JumpsOutside op insn i n = (t : ℕ) × IsTarget op insn i t × (n ≤ t)
 
 -- C8: an absolute load whose k is 0xfffff000 or more, and no extension has this place
-abbrev pub LoadsNoExtension : Op → Insn → Type 0
-LoadsNoExtension op insn = IsTrue (loads_absolute op) × (FIRST_EXTENSION ≤ insn.k) × (ext_at insn.k ≡ None)
+abbrev pub LoadsUnknownExtension : Op → Insn → Type 0
+LoadsUnknownExtension op insn = IsTrue (loads_absolute op) × (FIRST_EXTENSION ≤ insn.k) × (ext_at insn.k ≡ None)
 
 -- the order of reports: by rank, and of one rank by the instruction's index; C3 to C8 have rank 2
 abbrev pub rank : CheckFault → ℕ
@@ -91,7 +91,7 @@ HasFault list (NoSlot i) = InsnAt list i (λ op insn. NamesNoSlot op insn)
 HasFault list (ZeroDivisor i) = InsnAt list i (λ op insn. DividesByZero op insn)
 HasFault list (WideShift i) = InsnAt list i (λ op insn. ShiftsTooFar op insn)
 HasFault list (JumpOutside i) = InsnAt list i (λ op insn. JumpsOutside op insn i (length list))
-HasFault list (UnknownExtension i) = InsnAt list i (λ op insn. LoadsNoExtension op insn)
+HasFault list (UnknownExtension i) = InsnAt list i (λ op insn. LoadsUnknownExtension op insn)
 HasFault list NoReturn = (insn : Insn) × (slice_get list (length list - 1) ≡ Some insn) × (IsReturn insn → ⊥)
 HasFault list (UnwrittenSlot i) = InsnAt list i (λ op insn. IsTrue (loads_slot op) × MayBeUnwritten list insn.k i)
 
