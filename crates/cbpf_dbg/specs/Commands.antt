@@ -115,14 +115,14 @@ back_at m None = Err (fault.TooFarBack (m.place.step - 1))
 back_at m (Some e) = Ok (stopped m (stop_at why.Step e))
 
 -- b steps back within the packet
-abbrev pub back_to : View → Machine → List Record → ℕ → Answer RunReply
-back_to m machine capture b = back_at m (if nat_lt b m.place.step
+abbrev pub back_by : View → Machine → List Record → ℕ → Answer RunReply
+back_by m machine capture b = back_at m (if nat_lt b m.place.step
     then entry_in machine (slice_get capture (m.place.packet - 1)) (back_place m.place b) else None)
 
 abbrev pub step_in : View → Machine → List Record → ℤ → Answer RunReply
 step_in m machine capture (pos zero) = Err fault.ZeroCount
 step_in m machine capture (pos (suc n)) = Ok (step_to m machine capture (slice_get (entries_after machine capture m.place) n))
-step_in m machine capture (negsuc n) = back_to m machine capture (n + 1)
+step_in m machine capture (negsuc n) = back_by m machine capture (n + 1)
 
 -- n entries forward, or back where n is negative
 abbrev pub step : View → ℤ → Answer RunReply
