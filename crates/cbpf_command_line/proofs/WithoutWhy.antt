@@ -18,7 +18,7 @@ use Rattle.cbpf_command_line.specs.declared.job.LineFault.{LineFault}
 use Rattle.cbpf_command_line.specs.declared.request.RequestWords.{RequestWords}
 use Rattle.cbpf_command_line.specs.RequestLine.{wide_app, job, is_why, requested_by, requested_for, conflict_by}
 use Rattle.cbpf_command_line.specs.RequestLine.{request_faults}
-use Rattle.cbpf_command_line.specs.RequestLine.{names_why, AnswersAsBefore, request_meaning}
+use Rattle.cbpf_command_line.specs.RequestLine.{names_why, AnswersAsWithoutWhy, request_meaning}
 
 -- two walks of a command's words, of which the second knows one name more
 module _ (s : Shape) (plain wide : Names) (more : Text)
@@ -190,7 +190,7 @@ or_else-none (k ∷ ks) = refl
 
 pub answers-as-before : (words : List Text) (result : Result RequestWords LineFault)
     → IfOk result (λ r. request_meaning r ≡ requested_for words) → IfOk result (λ _. request_faults words ≡ [])
-    → IfErr result (IsFaultOf (request_faults words)) → AnswersAsBefore words result
+    → IfErr result (IsFaultOf (request_faults words)) → AnswersAsWithoutWhy words result
 unfolding requested_for request_faults asked_for faults_in names_why
 answers-as-before words (Ok r) request taken refused = λ n.
     let same = parsed-same words n in

@@ -142,7 +142,7 @@ request_meaning (request.Job j) = job (meaning j)
 request_meaning (request.Why w) = why (why_meaning w)
 
 -- a line that doesn't name `why` gets the answer of the program without `why`
-abbrev pub AnswersAsBefore : List Text → Result RequestWords LineFault → Type 0
-AnswersAsBefore words result = names_why words ≡ false
+abbrev pub AnswersAsWithoutWhy : List Text → Result RequestWords LineFault → Type 0
+AnswersAsWithoutWhy words result = names_why words ≡ false
     → MatchResult result (λ r. (request_meaning r ≡ job (asked_for words)) × (faults_in words ≡ []))
     (IsFaultOf (faults_in words))

@@ -290,7 +290,7 @@ pub fn request_line(alloc: Global, words: Vec<String>) -> Result<RequestWords, L
     ensures request { IfOk result (λ r. spec.request_meaning r ≡ spec.requested_for (map text_of words.items)) }
     ensures taken { IfOk result (λ _. spec.request_faults (map text_of words.items) ≡ []) }
     ensures refused { IfErr result (IsFaultOf (spec.request_faults (map text_of words.items))) }
-    ensures before { spec.AnswersAsBefore (map text_of words.items) result }
+    ensures before { spec.AnswersAsWithoutWhy (map text_of words.items) result }
 {
     request_of(alloc, &words)
 }
