@@ -11,7 +11,7 @@ use Rattle.std.proofs.lemmas.Slice.Eq.{bytes_eq-Decides, text_from_reads, HasByt
 use Rattle.std.proofs.lemmas.Str.{is_utf8-from_IsUtf8, IsUtf8-from_is_utf8, IsUtf8-from_ascii}
 use Rattle.std.proofs.lemmas.Str.Ascii.{IsAscii-nil, IsAscii-cons}
 use Rattle.cbpf_tool.specs.LineWords.{words_of, after_words, trimmed}
-use Rattle.cbpf_tool.specs.Commands.{ReadsArguments, readings, by_name, name_in, load_by}
+use Rattle.cbpf_tool.specs.Commands.{ReadsArguments, command_table, by_name, name_in, load_by}
 use Rattle.cbpf_tool.specs.declared.command.Command.TheVariants.{LoadCapture}
 use Rattle.cbpf_reply.specs.declared.errors.CommandFault.TheVariants.{UnknownCommand}
 
@@ -42,7 +42,7 @@ none-named (row ∷ rows) w n h =
 pub unknown : (w : List ℕ) (ws : List (List ℕ)) (text : List ℕ) → (IsUtf8 w → ⊥)
     → Err UnknownCommand ≡ by_name w ws text
 unknown w ws text n =
-    rw (none-named readings w n refl) refl
+    rw (none-named command_table w n refl) refl
 
 pub name-good : (s : List ℕ) → (length s ≡ 0 → ⊥) → IsUtf8 s → name_in s ≡ Some (LoadCapture s)
 name-good [] n h = absurd (n refl)

@@ -100,8 +100,8 @@ abbrev pub ReadsArguments : Type 0
 ReadsArguments = List (List ℕ) → List ℕ → Option Command
 
 -- the commands by their names
-abbrev pub readings : List (List ℕ × ReadsArguments)
-readings =
+abbrev pub command_table : List (List ℕ × ReadsArguments)
+command_table =
     (codes "load", load_by)
     ∷ (codes "disassemble", λ ws text. alone (Session Disassemble) ws)
     ∷ (codes "dump", λ ws text. alone (Session Dump) ws)
@@ -127,7 +127,7 @@ by_reading (Some read) ws text = or_wrong (read ws text)
 
 -- by the first word, the words after it, and what stands after the first of these, without the blanks around it
 abbrev pub by_name : List ℕ → List (List ℕ) → List ℕ → Result (Option Command) CommandFault
-by_name w ws text = by_reading (lookup (bytes_eq w) readings) ws text
+by_name w ws text = by_reading (lookup (bytes_eq w) command_table) ws text
 
 abbrev pub by_words : List (List ℕ) → List ℕ → Result (Option Command) CommandFault
 by_words [] text = Ok None
