@@ -177,10 +177,10 @@ stops m = loaded m (λ machine capture. Ok (stops_after machine capture m.breakp
 
 -- how a run's answer fits the stops ahead before it and after it: a stop is the first of them, and the others stay;
 -- up to a limit there is none; and at the end there is none left
-abbrev pub PassesHits : RunReply → List Stop → List Stop → Type 0
-PassesHits (Stopped h) before after = before ≡ h ∷ after
-PassesHits (Limit n) before after = before ≡ after
-PassesHits (Finished n) before after = before ≡ []
+abbrev pub AgreesWithHits : RunReply → List Stop → List Stop → Type 0
+AgreesWithHits (Stopped h) before after = before ≡ h ∷ after
+AgreesWithHits (Limit n) before after = before ≡ after
+AgreesWithHits (Finished n) before after = before ≡ []
 
 -- the same by the views
 pub record Continues (old new : View) (reply : RunReply) : Type 0 where
@@ -188,7 +188,7 @@ pub record Continues (old new : View) (reply : RunReply) : Type 0 where
   pub after : List Stop
   pub before_are : stops old ≡ Ok before
   pub after_are : stops new ≡ Ok after
-  pub passes : PassesHits reply before after
+  pub passes : AgreesWithHits reply before after
 
 -- ---- whole runs
 
