@@ -43,8 +43,8 @@ jumps_outside (Jump cond src) insn i n = elim (at_most n (i + 1 + insn.jt)) [
 ]
 jumps_outside _ insn i n = inr (λ h. h.1)
 
-loads_no_extension : (op : Op) (insn : Insn) → Decided (LoadsUnknownExtension op insn)
-loads_no_extension op insn = grind (arith, both, is_true, at_most, is_none)
+loads_unknown_extension : (op : Op) (insn : Insn) → Decided (LoadsUnknownExtension op insn)
+loads_unknown_extension op insn = grind (arith, both, is_true, at_most, is_none)
 
 -- the instruction at i is allowed, or has a fault of C3 to C8
 abbrev FaultAt : List Insn → ℕ → Type 0
@@ -71,7 +71,7 @@ known-fault list i insn op here known =
           | inl h ↦ inr (WideShift i, (insn, op, here, known, h), refl, refl)
           | inr c ↦ elim (jumps_outside op insn i (length list)) [
             | inl h ↦ inr (JumpOutside i, (insn, op, here, known, h), refl, refl)
-            | inr d ↦ elim (loads_no_extension op insn) [
+            | inr d ↦ elim (loads_unknown_extension op insn) [
               | inl h ↦ inr (UnknownExtension i, (insn, op, here, known, h), refl, refl)
               | inr e ↦ inl (insn, op, here, known, allowed op insn i (length list) a b c d e)
             ]
