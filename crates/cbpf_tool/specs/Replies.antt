@@ -67,14 +67,14 @@ abbrev pub CanRunOut : View → SessionCommand → Type 0
 CanRunOut m (Breakpoint k when) = IsOk (breakpoint_when m k when) × (lookup (nat_eq k) m.breakpoints ≡ None)
 CanRunOut m _ = ⊥
 
--- a line to which the reply can be `error: out of memory`; that it is, isn't said here
+-- a line to which the reply can be `error: out of memory`, but need not be
 abbrev pub CanBeUnheld : View → Result (Option Command) CommandFault → Type 0
 CanBeUnheld m (Ok (Some (LoadWords text))) = Unit {0}
 CanBeUnheld m (Ok (Some (LoadCapture name))) = Unit {0}
 CanBeUnheld m (Ok (Some (Session c))) = CanRunOut m c
 CanBeUnheld m _ = ⊥
 
--- a line to which the reply can be F2; that it is, isn't said here
+-- a line to which the reply can be F2, but need not be
 abbrev pub CanBeUnread : Result (Option Command) CommandFault → Type 0
 CanBeUnread (Ok (Some (LoadCapture name))) = Unit {0}
 CanBeUnread _ = ⊥
