@@ -6,7 +6,9 @@ usage: names.py
 The documents are README.md, CONTRIBUTING.md, docs/*.md, bench/*.md, tests/*.md, crates/*/README*, crates/*/CALLING.md
 and crates/*/must-fail/README.md. Each is read outside its blocks of code, and names what stands between backquotes:
   a path           with a slash or a suffix of this repository's files: it is there, from the top, from crates/, from
-                   the document's folder, from a crate of the heading or of the row, or in examples/
+                   the document's folder, from a crate of the heading or of the row, or in examples/. Below a heading
+                   that is a crate's name, a file of code or definitions by its name alone stands in that crate, or in
+                   one that the line names
   another name     it stands in the code, the definitions, the proofs or the scripts, or it is a file's or a folder's
   cbpf_..          also without backquotes: a crate, or a name of the code
   a clause         in the column `clause` of docs/PROMISES.md: an `ensures` of the functions of its row, or a member of
@@ -124,11 +126,13 @@ def is_path(name):
     return "/" in name or (head != "" and suffix in SUFFIXES)
 
 
-def is_there(name, document, here, in_table):
+def is_there(name, document, here, in_table, of_crate=False):
     if OUTSIDE.match(name) or name[0].isdigit():
         return True
     cases = TOP / "tests/cases"
     if "/" not in name.rstrip("/") and "*" not in name:
+        if of_crate and name.endswith((".rt", ".antt")):
+            return any(next((CRATES / crate).rglob(name), None) for crate in here)
         known = {path.name for path in all_paths()}
         return name.rstrip("/") in known or any((cases / f"{name}{end}").exists() for end in ("", ".case"))
     near = [CRATES / crate for crate in here]
@@ -175,15 +179,18 @@ def crates_in(text):
 
 def check_spans(path):
     here = [path.parent.parent.name] if path.parent.name == "must-fail" else []
+    of_crate = False
     for number, line in lines_of(path):
         if line.startswith("#"):
             above = crates_in(line)
+            of_crate = re.match(r"#+ (\w+)(:|$)", line) is not None and above != []
             if line.startswith("## ") or above:
                 here = above or ([path.parent.parent.name] if path.parent.name == "must-fail" else [])
         near = here + crates_in(line)
         for span in CODE_SPAN.findall(line):
             if is_path(span):
-                check(is_there(span, path, near, line.startswith("|")), path, number, f"no file or folder {span}")
+                there = is_there(span, path, near, line.startswith("|"), of_crate)
+                check(there, path, number, f"no file or folder {span}")
             elif NAME.fullmatch(span) and not re.fullmatch("[A-Z0-9]+", span) and path.name not in OF_USERS:
                 name = re.sub(r"\(.*\)$", "", span)
                 check(is_known(name), path, number, f"no name {span}")
