@@ -38,10 +38,7 @@ impl PacketEnd {
 ///
 /// The meter is at least twice `MAX_INSTRUCTIONS` turns below 2 to the 128 before.
 #[inline(always)]
-pub fn end_of_packet<A: Allocator>(
-    meter: &mut Meter,
-    task: &Task<'_, A>,
-) -> PacketEnd
+pub fn end_of_packet<A: Allocator>(meter: &mut Meter, task: &Task<'_, A>) -> PacketEnd
     requires { meter.old + 2 * MAX_INSTRUCTIONS ≤ 2 ^ 128 }
     ensures last { result.last ≡ last_or zero_state (entries_in task.now) }
     ensures reason { turn_from task.now result.last ≡ turn_of result.reason }
@@ -52,8 +49,7 @@ pub fn end_of_packet<A: Allocator>(
     let _few = task.program.len();
     let mut core = Core::zero();
     let mut slots = [0; SLOTS];
-    let (turns, end) =
-        make_turns::<_, A, 3>(&Never, false, None, task, &mut core, &mut slots);
+    let (turns, end) = make_turns::<_, A, 3>(&Never, false, None, task, &mut core, &mut slots);
     meter.add(turns);
     match end {
         Some(reason) => PacketEnd {

@@ -36,14 +36,7 @@ pub(crate) fn go_on<A: Allocator>(
     let fence = s.pc + most as usize;
     // A copy, which the loop of turns keeps in registers.
     let mut here = *s;
-    let (turns, end) = make_turns::<_, A, 2>(
-        &Never,
-        false,
-        Some(fence),
-        task,
-        &mut here,
-        slots,
-    );
+    let (turns, end) = make_turns::<_, A, 2>(&Never, false, Some(fence), task, &mut here, slots);
     *s = here;
     meter.add(turns);
     match end {
@@ -53,11 +46,7 @@ pub(crate) fn go_on<A: Allocator>(
 }
 
 /// Whether a packet's trace has an entry `to`, counted from 1, or how many entries it has.
-pub(crate) fn reach<A: Allocator>(
-    meter: &mut Meter,
-    task: &Task<'_, A>,
-    to: u32,
-) -> Result<(), u32>
+pub(crate) fn reach<A: Allocator>(meter: &mut Meter, task: &Task<'_, A>, to: u32) -> Result<(), u32>
     requires from_one { 1 ≤ to }
     requires spare { meter.old + to < 2 ^ 128 }
     ensures long { OnOk result (to ≤ length (entries_in task.now)) }
@@ -69,13 +58,7 @@ pub(crate) fn reach<A: Allocator>(
     let mut slots = [0; SLOTS];
     let mut entries = 1;
     'reach: while entries < to {
-        match go_on(
-            meter,
-            task,
-            to - entries,
-            &mut here,
-            &mut slots,
-        ) {
+        match go_on(meter, task, to - entries, &mut here, &mut slots) {
             Ok(turns) => entries += turns,
             Err(turns) => return Err(entries + turns - 1),
         }

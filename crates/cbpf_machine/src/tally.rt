@@ -28,10 +28,7 @@ pub struct Runs {
 
 /// Makes all turns of a packet and counts them: how many they are, and the packet's way.
 #[inline(always)]
-fn count_turns<A: Allocator>(
-    task: &Task<'_, A>,
-    runs: &mut [Runs],
-) -> (u32, Way)
+fn count_turns<A: Allocator>(task: &Task<'_, A>, runs: &mut [Runs]) -> (u32, Way)
     requires long { length runs.old ≡ length task.now.program.now }
     requires fits { (i : ℕ) → ((runs_at runs.old i).executed + 1 < 2 ^ 64) × ((runs_at runs.old i).taken + 1 < 2 ^ 64) }
     ensures turns { result.0 ≡ length (entries_in task.now) }
@@ -117,11 +114,7 @@ impl<A: Allocator> Tally<A> {
     ///
     /// Fewer than 2 to the 64 packets minus 1 were counted before. The meter is at least twice `MAX_INSTRUCTIONS`
     /// turns below 2 to the 128 before.
-    pub fn count_packet<B: Allocator>(
-        &mut self,
-        meter: &mut Meter,
-        task: &Task<'_, B>,
-    ) -> Way
+    pub fn count_packet<B: Allocator>(&mut self, meter: &mut Meter, task: &Task<'_, B>) -> Way
         requires long { length self.old.runs ≡ length task.now.program.now }
         requires few { self.old.packets + 1 < 2 ^ 64 }
         requires spare { meter.old + 2 * MAX_INSTRUCTIONS ≤ 2 ^ 128 }
