@@ -1,5 +1,7 @@
 //! How packets go through programs, and how often each instruction runs.
 
+ghost use Rattle.std.specs.Prelude.{◌≡◌};
+
 use crate::assertions::{Test, assert_at};
 use crate::inputs::program_of;
 use cbpf_code::{Ext, Program};
@@ -83,16 +85,27 @@ fn goes_so(way: &Way, last: Place, reason: End, test: Option<Place>) -> bool {
     (s.pc(), s.a(), s.x()) == last && way.end.reason == reason && at == test
 }
 
+/// A program, a packet and values as one.
+fn task<'a, A: Allocator>(
+    program: &'a Program<A>,
+    packet: Packet<'a>,
+    values: &'a Values,
+) -> Task<'a, A>
+    ensures { result.program.now ≡ program.now }
+{
+    Task {
+        program,
+        packet,
+        values,
+    }
+}
+
 /// Whether all three calls say so of a packet.
 fn all_say_so<A: Allocator>(rt: &impl Test, p: &Program<A>, row: &Row) -> bool {
     let (_, bytes, last, reason, test) = *row;
     let packet = Packet { bytes, wire: 60 };
     let values = Values::new();
-    let task = Task {
-        program: p,
-        packet,
-        values: &values,
-    };
+    let task = task(p, packet, &values);
     let way = way_of_packet(&mut Meter::new(), &task);
     let end = end_of_packet(&mut Meter::new(), &task);
     let mut tally = Tally::new(rt.alloc(), p).expect(rt, "the tally");
@@ -152,11 +165,7 @@ fn counts_over_packets(rt: HostRuntime) {
         assert!(rt;
             tally.packets() < 6 && tally.runs().len() == p.len() as usize && meter.spent() < 100
         );
-        let task = Task {
-            program: &p,
-            packet: Packet { bytes, wire: 60 },
-            values: &values,
-        };
+        let task = task(&p, Packet { bytes, wire: 60 }, &values);
         tally.count_packet(&mut meter, &task);
         assert_at(&rt, i, tally.packets() == i as u64 + 1);
     }
@@ -173,14 +182,11 @@ fn counts_of_a_jump_with_one_target(rt: HostRuntime) {
         let p = program_of(rt.alloc(), words).expect(&rt, "a program");
         let mut tally = Tally::new(rt.alloc(), &p).expect(&rt, "the tally");
         let values = Values::new();
-        let task = Task {
-            program: &p,
-            packet: Packet {
-                bytes: b"",
-                wire: 0,
-            },
-            values: &values,
+        let packet = Packet {
+            bytes: b"",
+            wire: 0,
         };
+        let task = task(&p, packet, &values);
         tally.count_packet(&mut Meter::new(), &task);
         assert!(rt; are_runs(tally.runs(), &[(1, taken), (1, 0)]));
     }
