@@ -2,7 +2,9 @@ pub mod StepLemmas
 pub mod TextLemmas
 pub mod GroupLemmas
 pub mod FilterLemmas
-pub mod JobLemmas
+pub mod CountedLemmas
+pub mod ReadLemmas
+pub mod InRangeLemmas
 pub mod RangeLemmas
 pub mod ReportLemmas
 pub mod BlockLemmas

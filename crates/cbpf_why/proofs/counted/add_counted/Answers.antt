@@ -2,7 +2,7 @@ use Rattle.std.proofs.Common.{length, arith}
 use Rattle.pcap_classic.specs.Lent.{record_of}
 use Rattle.cbpf_why.specs.Ends.{ends_of}
 use Rattle.cbpf_why.specs.Question.{machine_in}
-use Rattle.cbpf_why.proofs.JobLemmas.{took-both, groups_shown, runs_shown, length-ends}
+use Rattle.cbpf_why.proofs.CountedLemmas.{took-both, groups_shown, runs_shown, length-ends}
 use Rattle.cbpf_why.proofs.counted.add_counted.Goals as goal
 
 pub count_packet-ended-requires-clause-long : goal.count_packet-ended-requires-clause-long

@@ -2,7 +2,7 @@ use Rattle.std.proofs.Common.{refl, length, arith}
 use Rattle.pcap_classic.specs.Lent.{record_of}
 use Rattle.cbpf_why.specs.Ends.{ends_of}
 use Rattle.cbpf_why.specs.Question.{machine_in}
-use Rattle.cbpf_why.proofs.JobLemmas.{took-groups, groups_shown, length-ends}
+use Rattle.cbpf_why.proofs.CountedLemmas.{took-groups, groups_shown, length-ends}
 use Rattle.cbpf_why.proofs.counted.add_ended.Goals as goal
 
 pub add-requires : goal.add-requires

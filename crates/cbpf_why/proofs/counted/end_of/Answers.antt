@@ -2,7 +2,7 @@ use Rattle.std.proofs.Common.{◌∙◌}
 use Rattle.cbpf_machine.specs.OnPacket.{OnPacket}
 use Rattle.pcap_classic.specs.Lent.{record_of}
 use Rattle.cbpf_why.specs.Question.{machine_in}
-use Rattle.cbpf_why.proofs.JobLemmas.{ended-is}
+use Rattle.cbpf_why.proofs.CountedLemmas.{ended-is}
 use Rattle.cbpf_why.proofs.StepLemmas.{last_inside}
 use Rattle.cbpf_why.proofs.counted.end_of.Goals as goal
 

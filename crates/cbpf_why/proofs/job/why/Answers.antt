@@ -1,6 +1,6 @@
 use Rattle.std.proofs.Common.{◌≡◌, refl, rules, Err}
 use Rattle.cbpf_why.specs.Question.{machine_in}
-use Rattle.cbpf_why.proofs.JobLemmas.{took-nothing}
+use Rattle.cbpf_why.proofs.CountedLemmas.{took-nothing}
 use Rattle.cbpf_why.proofs.ReportLemmas.{broke, complete, unclosed, unflushed, unstarted}
 use Rattle.cbpf_why.proofs.job.why.Goals as goal
 

@@ -1,6 +1,7 @@
 use Rattle.std.proofs.Common.{refl}
 use Rattle.cbpf_code.proofs.WrittenLemmas.{appended-nil}
-use Rattle.cbpf_why.proofs.JobLemmas.{closed_by, groups_shown}
+use Rattle.cbpf_why.proofs.CountedLemmas.{groups_shown}
+use Rattle.cbpf_why.proofs.InRangeLemmas.{closed_by}
 use Rattle.cbpf_why.proofs.job.write_closing.Goals as goal
 
 pub returns-in-Ways : goal.returns-in-Ways

@@ -1,6 +1,6 @@
 use Rattle.std.proofs.Common.{[]}
 use Rattle.cbpf_code.proofs.WrittenLemmas.{appended-nil, appended-kept, appended-then, part-then, part-take}
-use Rattle.cbpf_why.proofs.JobLemmas.{stepped_over, stepped_on, stepped_failed, stepped_end, stepped_unread, stepped_unheld, stepped_unflushed}
+use Rattle.cbpf_why.proofs.ReadLemmas.{stepped_over, stepped_on, stepped_failed, stepped_end, stepped_unread, stepped_unheld, stepped_unflushed}
 use Rattle.cbpf_why.proofs.taking.take_next.Goals as goal
 
 pub returns-then-record-first : goal.returns-then-record-first

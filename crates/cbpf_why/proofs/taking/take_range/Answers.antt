@@ -1,6 +1,6 @@
 use Rattle.std.proofs.Common.{◌≡◌, ◌++◌, arith, refl, true, false}
 use Rattle.cbpf_code.proofs.WrittenLemmas.{appended-nil}
-use Rattle.cbpf_why.proofs.JobLemmas.{range-starts, range-goes, range-ends, range-fails}
+use Rattle.cbpf_why.proofs.InRangeLemmas.{range-starts, range-goes, range-ends, range-fails}
 use Rattle.cbpf_why.proofs.taking.take_range.Goals as goal
 
 pub records-init : goal.records-init

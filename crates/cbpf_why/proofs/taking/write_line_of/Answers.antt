@@ -1,7 +1,7 @@
 use Rattle.std.proofs.Common.{◌∙◌}
 use Rattle.pcap_classic.specs.Lent.{record_of}
 use Rattle.cbpf_why.specs.Question.{machine_in}
-use Rattle.cbpf_why.proofs.JobLemmas.{ended-is}
+use Rattle.cbpf_why.proofs.CountedLemmas.{ended-is}
 use Rattle.cbpf_why.proofs.taking.write_line_of.Goals as goal
 
 pub returns : goal.returns

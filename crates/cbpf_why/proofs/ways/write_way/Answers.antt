@@ -4,7 +4,7 @@ use Rattle.cbpf_machine.specs.Machine.{machine_of}
 use Rattle.cbpf_machine.specs.OnPacket.{OnPacket}
 use Rattle.pcap_classic.specs.Lent.{record_of}
 use Rattle.cbpf_why.specs.Ways.{way_text}
-use Rattle.cbpf_why.proofs.JobLemmas.{ended-is}
+use Rattle.cbpf_why.proofs.CountedLemmas.{ended-is}
 use Rattle.cbpf_why.proofs.StepLemmas.{last_inside, test_inside}
 use Rattle.cbpf_why.proofs.ways.write_way.Goals as goal
 
