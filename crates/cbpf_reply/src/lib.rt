@@ -1,4 +1,5 @@
-//! What a debugger's session answers, and all texts that the debugger prints but the listing, a file for each notion.
+//! What a debugger's session answers, and the texts that the debugger prints, a file for each notion. The listing and the
+//! texts of errors C and N are those of `cbpf_code`, and the texts of errors P those of `pcap_classic`.
 //!
 //! What `bpf_dbg` prints in the kernel's Documentation/networking/filter has the same parts here; the
 //! layout of the dump of a stop, and all other texts, are this project's own.
