@@ -19,11 +19,11 @@ use Rattle.cbpf_dbg.specs.declared.loaded.Loaded.{Loaded}
 use Rattle.cbpf_dbg.specs.Loaded.{machine_in, records_in}
 use Rattle.cbpf_dbg.specs.declared.cursor.Moved.TheVariants as moved
 use Rattle.cbpf_dbg.specs.Breakpoints.{Breakpoints}
-use Rattle.cbpf_dbg.specs.Joined.{entries_after, stops_after, entries_from, joined_from}
+use Rattle.cbpf_dbg.specs.Joined.{entries_after, stops_of, stops_after, entries_from, joined_from}
 use Rattle.cbpf_dbg.specs.Session.{hits}
 use Rattle.cbpf_dbg.specs.Cursor.{AreLeft, IsEnd, Stands, followed, moved_by, owed, passed}
 use Rattle.cbpf_dbg.specs.Going.{Covers, GoesOn}
-use Rattle.cbpf_dbg.proofs.JoinedLemmas.{place_at, entry, ahead-in, ahead-entry, ahead-leave, rest-same, rest-pass}
+use Rattle.cbpf_dbg.proofs.JoinedLemmas.{place_at, ahead-in, ahead-entry, ahead-leave, not_before_on, not_before_past}
 use Rattle.cbpf_dbg.proofs.RecordsLeftLemmas.{left_here, left_past}
 use Rattle.cbpf_dbg.proofs.TurnCountLemmas.{length_entries}
 use Rattle.cbpf_dbg.proofs.CursorLemmas.{packet_from_one, stands_at, stands-passed, entry_at_place}
@@ -96,9 +96,8 @@ module _ (machine : Machine) (capture : List Record) (w : Cursor) (r : Record) (
     entries-passed k (suc n) m e within none =
         let s = item_within xs k (omega (arith, e, within)) in
         let first = ahead-entry machine capture w.place.packet k r s.0 from_one at s.1 in
-        rest-pass machine capture breakpoints (place_at w.place.packet k) (place_at w.place.packet (k + 1))
-        (entry machine r w.place.packet (k + 1) s.0) first (none k s.0 (omega arith) (omega (arith, e)) s.1)
-        ∙ entries-passed (k + 1) n m (omega (arith, e)) within (λ i t from to is. none i t (omega (arith, from)) to is)
+        rw (first, none k s.0 (omega arith) (omega (arith, e)) s.1)
+        (entries-passed (k + 1) n m (omega (arith, e)) within (λ i t from to is. none i t (omega (arith, from)) to is))
 
   module _ (breakpoints : Breakpoints) (pauses : Registers → Bool) (covers : Covers pauses machine breakpoints) where
     no_hits : (m : ℕ) → Unpaused pauses xs w.place.step m → NoHits breakpoints w.place.step m
@@ -122,8 +121,7 @@ module _ (machine : Machine) (capture : List Record) (w : Cursor) (r : Record) (
         let leave = ahead-leave machine capture w.place.packet (length xs) r from_one at (omega arith) in
         entries-passed breakpoints w.place.step (length xs - w.place.step) (length xs) (omega (arith, step_within))
         (omega arith) (no_hits (length xs) unpaused)
-        ∙ rest-same machine capture breakpoints (place_at w.place.packet (length xs))
-        (place_at (w.place.packet + 1) 0) leave
+        ∙ ap (stops_of breakpoints) leave
 
   module _ (pauses : Registers → Bool) where
     on_owed : (n : ℕ) (s : Registers)
@@ -166,7 +164,7 @@ module _ {A : Type 0} (l : Loaded A) (w : Cursor) (r : Record) (h : Stands (mach
         passes = record {
           stands = stands_at _ _ w r h at (w.place.step + n) s on.2;
           origin = refl;
-          order = inr (refl, omega arith);
+          order = not_before_on w.place _ refl (omega arith);
           spent = omega (arith, on_owed _ _ w r h at pauses n s on, turns, step);
         };
         hits = λ covers. on_hits _ _ w r h at _ pauses covers n s on;
@@ -193,7 +191,7 @@ module _ {A : Type 0} (l : Loaded A) (w : Cursor) (r : Record) (h : Stands (mach
         passes = record {
           stands = subst (λ u. Stands (machine_in l) (records_in l) u) same (stands-passed _ _ w r h at);
           origin = refl;
-          order = inl (omega arith);
+          order = not_before_past w.place _ (omega arith);
           spent = omega (arith, ahead_long _ _ w r h at w.place.step (step_within _ _ w r h at), ap length leave, turns, step, (step_within _ _ w r h at));
         };
         hits = λ covers. end_hits _ _ w r h at _ pauses covers on.0;

@@ -12,13 +12,12 @@ use Rattle.cbpf_dbg.specs.declared.cursor.Walk.{Walk}
 use Rattle.cbpf_dbg.specs.declared.loaded.Loaded.{Loaded}
 use Rattle.cbpf_dbg.specs.Loaded.{machine_in, records_in, breakpoints_in}
 use Rattle.cbpf_dbg.specs.Breakpoints.{Breakpoints}
-use Rattle.cbpf_dbg.specs.Joined.{entries_after, stops_after, stop_at}
+use Rattle.cbpf_dbg.specs.Joined.{entries_after, stops_after, stop_at, place_before}
 use Rattle.cbpf_dbg.specs.Session.{hits}
-use Rattle.cbpf_dbg.specs.Cursor.{Stands, Passes, before, entry_here}
+use Rattle.cbpf_dbg.specs.Cursor.{Stands, Passes, entry_here}
 use Rattle.cbpf_dbg.specs.Going.{Covers, GoesOn}
 use Rattle.cbpf_dbg.proofs.CursorLemmas.{goes, entry_at_place}
-use Rattle.cbpf_dbg.proofs.JoinedLemmas.{ahead-entry, rest-hit}
-use Rattle.cbpf_dbg.proofs.TurnCountLemmas.{not_before_after}
+use Rattle.cbpf_dbg.proofs.JoinedLemmas.{ahead-entry, not_before_after}
 
 pub passes_more : (machine : Machine) (capture : List Record) (old mid new : Cursor) (m n k : ℕ)
     → Passes machine capture old mid m n → Passes machine capture mid new n k → Passes machine capture old new m k
@@ -30,22 +29,21 @@ passes_more machine capture old mid new m n k h then_ =
       spent = then_.spent ∙ h.spent;
     }
 
-module _ (machine : Machine) (capture : List Record) (breakpoints : Breakpoints) where
+module _ (machine : Machine) (capture : List Record) (w : Cursor) (r : Record) (h : Stands machine capture w)
+    (begun : 0 < w.place.step) (at : slice_get capture (w.place.packet - 1) ≡ Some r) where
   -- the entry of a place is the first one from it on
-  module _ (w : Cursor) (r : Record) (h : Stands machine capture w) (begun : 0 < w.place.step)
-      (at : slice_get capture (w.place.packet - 1) ≡ Some r) where
-    entry_first : entries_after machine capture (before w.place) ≡ entry_here machine r w ∷ entries_after machine capture w.place
-    entry_first =
-        let one : 1 ≤ w.place.packet = omega (arith, h.from_one, h.ordered) in
-        let i : w.place.step - 1 + 1 ≡ w.place.step = omega (arith, begun) in
-        rw i at (ahead-entry machine capture w.place.packet (w.place.step - 1) r w.state one at
-        (entry_at_place machine capture w r h at begun))
+  pub entry_first : entries_after machine capture (place_before w.place)
+      ≡ entry_here machine r w ∷ entries_after machine capture w.place
+  entry_first =
+      let one : 1 ≤ w.place.packet = omega (arith, h.from_one, h.ordered) in
+      let i : w.place.step - 1 + 1 ≡ w.place.step = omega (arith, begun) in
+      rw i at (ahead-entry machine capture w.place.packet (w.place.step - 1) r w.state one at
+      (entry_at_place machine capture w r h at begun))
 
-    pub hits_hit : hits machine breakpoints r.bytes r.wire w.state ≡ true
-        → stops_after machine capture breakpoints (before w.place)
-        ≡ stop_at why.Break (entry_here machine r w) ∷ stops_after machine capture breakpoints w.place
-    hits_hit hit =
-        rest-hit machine capture breakpoints (before w.place) w.place (entry_here machine r w) entry_first hit
+  pub hits_hit : (breakpoints : Breakpoints) → hits machine breakpoints r.bytes r.wire w.state ≡ true
+      → stops_after machine capture breakpoints (place_before w.place)
+      ≡ stop_at why.Break (entry_here machine r w) ∷ stops_after machine capture breakpoints w.place
+  hits_hit breakpoints hit = rw (entry_first, hit) refl
 
 module _ {A : Type 0} (l : Loaded A) where
   -- where it pauses at what the session watches, it pauses at each hit
@@ -87,6 +85,6 @@ module _ {A : Type 0} (l : Loaded A) where
       let inside = (goes _ _ new.cursor at.0 h.passes.stands at.1 here.0).inside in (
         at.0,
         inside,
-        h.hits watches_hits ∙ hits_hit _ _ _ new.cursor at.0 h.passes.stands here.0 at.1
+        h.hits watches_hits ∙ hits_hit _ _ new.cursor at.0 h.passes.stands here.0 at.1 _
             (sym (l.watches.hits_are at.0.bytes at.0.wire new.cursor.state inside) ∙ here.1),
       )

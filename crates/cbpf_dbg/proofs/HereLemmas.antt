@@ -1,7 +1,7 @@
 -- Entries stand at their places, so a session can go back to its stops.
 use Rattle.std.proofs.Common.{◌≡◌, ℕ, zero, suc, ◌+◌, ◌-◌, ◌<◌, ◌≤◌, List, [], ◌∷◌, length, arith, refl, ap, ◌∙◌, subst}
 use Rattle.std.proofs.Common.{Bool, true, false, cond, ℤ, pos, negsuc, sym, ◌++◌, append-nil}
-use Rattle.std.specs.Prelude.{Option, Some, None, Result, Ok, Err, IfOk, slice_get, filter, map, nat_lt, nat_le, ◌==◌}
+use Rattle.std.specs.Prelude.{Option, Some, None, Result, Ok, Err, IfOk, slice_get, filter, nat_lt, nat_le, ◌==◌}
 use Rattle.std.specs.List.{All}
 use Rattle.std.specs.Option.{option_map}
 use Rattle.std.proofs.lemmas.Bool.Decides.{nat_tests}
@@ -30,7 +30,7 @@ use Rattle.cbpf_dbg.specs.View.{View, start}
 use Rattle.cbpf_dbg.specs.Commands.{Answer, reply_of, view_after, run, run_in, run_to, run_out, within_limit, stopped}
 use Rattle.cbpf_dbg.specs.Commands.{finished, limited, step, step_in, step_to, entry_in, back_place, back_at, steps_of, last_place, run_to_end}
 use Rattle.cbpf_dbg.specs.Here.{stop_of, entry_of, stop_here, CanReturn, StopsHere, IsHere}
-use Rattle.cbpf_dbg.proofs.JoinedLemmas.{entry, rest-ahead}
+use Rattle.cbpf_dbg.proofs.JoinedLemmas.{entry}
 use Rattle.cbpf_dbg.proofs.ResumeLemmas.{taken}
 use Rattle.cbpf_dbg.proofs.ShownStops.{All-slice_get}
 use Rattle.cbpf_dbg.proofs.WholeLemmas.{HasLoaded, Going}
@@ -133,9 +133,8 @@ module _ (machine : Machine) (c : Savefile) (v : View) (h : HasLoaded machine c 
       let entries = entries_after machine c.records place in
       let there = All-filter (is_hit v.breakpoints) (IsThere machine c.records) entries (there-ahead machine c.records place) in
       let hits = filter_passes (is_hit v.breakpoints) entries in
-      rw (rest-ahead machine c.records v.breakpoints place)
-      (All-map (CanReturn v) (stop_at why.Break) (filter (is_hit v.breakpoints) entries)
-      (λ k d inside. can-return _ (there k d inside) (hits k d inside)))
+      All-map (CanReturn v) (stop_at why.Break) (filter (is_hit v.breakpoints) entries)
+      (λ k d inside. can-return _ (there k d inside) (hits k d inside))
 
   -- each hit ahead
   pub returns-rest : (breakpoints : Breakpoints) (place : Place) → v.breakpoints ≡ breakpoints

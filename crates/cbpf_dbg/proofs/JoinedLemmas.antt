@@ -1,7 +1,7 @@
 -- The joined list from a place on.
-use Rattle.std.proofs.Common.{◌≡◌, ℕ, zero, suc, ◌+◌, ◌-◌, ◌<◌, ◌≤◌, List, [], ◌∷◌, ◌++◌, length, drop, Bool, true}
-use Rattle.std.proofs.Common.{false, arith, sym, ap, ◌∙◌, refl, inl, inr, cond}
-use Rattle.std.specs.Prelude.{Some, slice_get, filter, map}
+use Rattle.std.proofs.Common.{◌≡◌, ℕ, zero, suc, ◌+◌, ◌-◌, ◌<◌, ◌≤◌, List, [], ◌∷◌, ◌++◌, length, drop, true}
+use Rattle.std.proofs.Common.{false, arith, sym, ap, ◌∙◌, refl, inl, inr}
+use Rattle.std.specs.Prelude.{Some, slice_get, filter}
 use Rattle.std.proofs.lemmas.Bool.Decides.{nat_tests}
 use Rattle.std.proofs.lemmas.List.{drop_all}
 use Rattle.std.proofs.lemmas.List.Elements.{filter-append}
@@ -12,12 +12,8 @@ use Rattle.cbpf_machine.specs.Trace.{trace}
 use Rattle.pcap_classic.specs.Records.{Record}
 use Rattle.cbpf_reply.specs.declared.reply.Place.{Place}
 use Rattle.cbpf_reply.specs.Places.{is_before}
-use Rattle.cbpf_dbg.specs.Joined.{Entry, entries_from, packet_entries, joined_from, joined, entries_after, is_hit}
-use Rattle.cbpf_dbg.specs.Joined.{stop_at, stops_after}
-use Rattle.cbpf_reply.specs.declared.reply.Stop.{Stop}
-use Rattle.cbpf_reply.specs.declared.reply.Why.TheVariants as why
+use Rattle.cbpf_dbg.specs.Joined.{Entry, entries_from, packet_entries, joined_from, joined, entries_after}
 use Rattle.std.proofs.lemmas.Option.{slice_get_cases}
-use Rattle.cbpf_dbg.specs.Breakpoints.{Breakpoints}
 
 -- the entry of a packet at a step
 abbrev pub entry : Machine → Record → ℕ → ℕ → Registers → Entry
@@ -45,6 +41,17 @@ after_step p s k h = grind (arith, nat_tests)
 
 not_after_step : (p s k : ℕ) → k ≤ s → is_before (place_at p s) (place_at p k) ≡ false
 not_after_step p s k h = grind (arith, nat_tests)
+
+-- a place that is not before another
+pub not_before_on : (old new : Place) → new.packet ≡ old.packet → old.step ≤ new.step → is_before new old ≡ false
+not_before_on old new p h = grind (arith, nat_tests)
+
+pub not_before_past : (old new : Place) → old.packet < new.packet → is_before new old ≡ false
+not_before_past old new h = grind (arith, nat_tests)
+
+pub not_before_after : (old mid new : Place) → is_before mid old ≡ false → is_before new mid ≡ false
+    → is_before new old ≡ false
+not_before_after old mid new h k = grind (arith, nat_tests)
 
 -- entries of an earlier packet are not after the place
 later-packet_before : (machine : Machine) (r : Record) (p s q k : ℕ) (xs : List Registers) → q < p
@@ -171,57 +178,3 @@ pub ahead-whole : (machine : Machine) (capture : List Record) (p : ℕ) (r : Rec
 ahead-whole machine capture p r from_one at =
     ahead-in machine capture p 0 r from_one at
     ∙ ap (λ later. packet_entries machine r p ++ later) (joined-next machine capture p from_one)
-
--- ---- the hits ahead
-
-swap_head : {X : Type 0} (f g : X → Bool) (x : X) (xs : List X) (b c : Bool) → f x ≡ b → g x ≡ c
-    → filter f (filter g xs) ≡ filter g (filter f xs)
-    → filter f (cond c (x ∷ filter g xs) (filter g xs)) ≡ filter g (cond b (x ∷ filter f xs) (filter f xs))
-swap_head f g x xs true true hf hg ih = rw (hf, hg) (ap (λ rest. x ∷ rest) ih)
-swap_head f g x xs true false hf hg ih = rw hg ih
-swap_head f g x xs false true hf hg ih = rw hf ih
-swap_head f g x xs false false hf hg ih = ih
-
-filter-swap : {X : Type 0} (f g : X → Bool) (xs : List X) → filter f (filter g xs) ≡ filter g (filter f xs)
-filter-swap f g [] = refl
-filter-swap f g (x ∷ xs) = swap_head f g x xs (f x) (g x) refl refl (filter-swap f g xs)
-
-map_head : {X Y : Type 0} (f : X → Y) (b : Bool) (x : X) (xs : List X) (ys : List Y) → ys ≡ map f xs
-    → cond b (f x ∷ ys) ys ≡ map f (cond b (x ∷ xs) xs)
-map_head f true x xs ys h = ap (λ rest. f x ∷ rest) h
-map_head f false x xs ys h = h
-
-later-stops : (place : Place) (es : List Entry)
-    → filter (λ (h : Stop). is_before place h.place) (map (stop_at why.Break) es)
-    ≡ map (stop_at why.Break) (filter (λ (e : Entry). is_before place e.place) es)
-later-stops place [] = refl
-later-stops place (e ∷ es) = map_head (stop_at why.Break) (is_before place e.place) e _ _ (later-stops place es)
-
-pub rest-ahead : (machine : Machine) (capture : List Record) (breakpoints : Breakpoints) (place : Place)
-    → stops_after machine capture breakpoints place
-    ≡ map (stop_at why.Break) (filter (is_hit breakpoints) (entries_after machine capture place))
-rest-ahead machine capture breakpoints place =
-    later-stops place (filter (is_hit breakpoints) (joined machine capture)) ∙ ap (map (stop_at why.Break))
-    (filter-swap (λ (e : Entry). is_before place e.place) (is_hit breakpoints) (joined machine capture))
-
--- ---- what a run passes over and stops at
-
-module _ (machine : Machine) (capture : List Record) (breakpoints : Breakpoints) (old : Place) where
-  pub rest-none : entries_after machine capture old ≡ [] → stops_after machine capture breakpoints old ≡ []
-  rest-none h = rw (rest-ahead machine capture breakpoints old, h) refl
-
-  module _ (new : Place) where
-    pub rest-same : entries_after machine capture old ≡ entries_after machine capture new
-        → stops_after machine capture breakpoints old ≡ stops_after machine capture breakpoints new
-    rest-same h = rw (rest-ahead machine capture breakpoints old, rest-ahead machine capture breakpoints new, h) refl
-
-    module _ (e : Entry) (h : entries_after machine capture old ≡ e ∷ entries_after machine capture new) where
-      pub rest-hit : is_hit breakpoints e ≡ true
-          → stops_after machine capture breakpoints old ≡ stop_at why.Break e ∷ stops_after machine capture breakpoints new
-      rest-hit hit =
-          rw (rest-ahead machine capture breakpoints old, rest-ahead machine capture breakpoints new, h, hit) refl
-
-      pub rest-pass : is_hit breakpoints e ≡ false
-          → stops_after machine capture breakpoints old ≡ stops_after machine capture breakpoints new
-      rest-pass hit =
-          rw (rest-ahead machine capture breakpoints old, rest-ahead machine capture breakpoints new, h, hit) refl

@@ -12,8 +12,10 @@ use Rattle.cbpf_reply.specs.declared.reply.Place.{Place}
 use Rattle.cbpf_reply.specs.declared.reply.Stop.{Stop}
 use Rattle.cbpf_reply.specs.declared.reply.Why.TheVariants as why
 use Rattle.cbpf_reply.specs.Places.{is_before}
-use Rattle.cbpf_dbg.specs.Joined.{Entry, entries_from, packet_entries, joined_from, joined, is_hit, stop_at, stops_in}
+use Rattle.cbpf_dbg.specs.Joined.{Entry, entries_from, packet_entries, joined_from, joined, entries_after, is_hit, stop_at}
+use Rattle.cbpf_dbg.specs.Joined.{stops_of}
 use Rattle.cbpf_dbg.specs.Laws.{Rises, EntriesRise, HitsRise, RestRises}
+use Rattle.cbpf_dbg.specs.Breakpoints.{Breakpoints}
 use Rattle.cbpf_dbg.proofs.JoinedLemmas.{entry}
 
 -- an entry of the packet at this step or a later one
@@ -94,12 +96,15 @@ rise-stops (e ∷ es) h = (
   rise-stops es h.1,
 )
 
+rise-hits : (breakpoints : Breakpoints) (es : List Entry) → Rises (λ (e : Entry). e.place) es
+    → Rises (λ (h : Stop). h.place) (stops_of breakpoints es)
+rise-hits breakpoints es h =
+    rise-stops (filter (is_hit breakpoints) es) (rise-filter (λ (e : Entry). e.place) (is_hit breakpoints) es h)
+
 pub hits_rise : HitsRise
-hits_rise machine capture breakpoints =
-    rise-stops (filter (is_hit breakpoints) (joined machine capture))
-    (rise-filter (λ (e : Entry). e.place) (is_hit breakpoints) (joined machine capture) (entries_rise machine capture))
+hits_rise machine capture breakpoints = rise-hits breakpoints (joined machine capture) (entries_rise machine capture)
 
 pub rest_rises : RestRises
 rest_rises machine capture breakpoints place =
-    rise-filter (λ (h : Stop). h.place) (λ (h : Stop). is_before place h.place) (stops_in machine capture breakpoints)
-    (hits_rise machine capture breakpoints)
+    rise-hits breakpoints (entries_after machine capture place) (rise-filter (λ (e : Entry). e.place)
+    (λ (e : Entry). is_before place e.place) (joined machine capture) (entries_rise machine capture))

@@ -1,9 +1,9 @@
 -- What a run answers where it ends.
-use Rattle.std.proofs.Common.{◌≡◌, ℕ, suc, ◌+◌, ◌-◌, ◌<◌, ◌≤◌, List, [], ◌∷◌, ◌++◌, length, Bool, true, false}
-use Rattle.std.proofs.Common.{arith, sym, ap, ◌∙◌, refl, inl, inr}
-use Rattle.std.specs.Prelude.{Option, Some, None, slice_get, nat_lt, nat_le}
+use Rattle.std.proofs.Common.{◌≡◌, ℕ, suc, ◌+◌, ◌-◌, ◌<◌, ◌≤◌, List, [], ◌∷◌, ◌++◌, length, true, false}
+use Rattle.std.proofs.Common.{arith, sym, ap, ◌∙◌, refl}
+use Rattle.std.specs.Prelude.{Option, Some, None, filter, slice_get, nat_lt, nat_le}
 use Rattle.std.proofs.lemmas.Bool.Decides.{nat_tests}
-use Rattle.std.proofs.lemmas.List.Elements.{All-head, filter_passes}
+use Rattle.std.proofs.lemmas.List.Elements.{All-filter, All-head, All-map, filter_passes}
 use Rattle.cbpf_machine.specs.Machine.{Machine}
 use Rattle.pcap_classic.specs.Records.{Record}
 use Rattle.pcap_classic.specs.Savefile.{Savefile}
@@ -13,18 +13,15 @@ use Rattle.cbpf_reply.specs.declared.reply.Why.TheVariants as why
 use Rattle.cbpf_reply.specs.declared.reply.RunReply.TheVariants.{Stopped, Limit, Finished}
 use Rattle.cbpf_reply.specs.Places.{is_before}
 use Rattle.cbpf_dbg.specs.declared.cursor.Cursor.{Cursor}
-use Rattle.cbpf_dbg.specs.Joined.{entries_after, stops_after, counts, stop_at, stops_in}
+use Rattle.cbpf_dbg.specs.Joined.{Entry, joined, entries_after, is_hit, stops_of, stops_after, counts, stop_at}
 use Rattle.cbpf_dbg.specs.View.{View, start}
 use Rattle.cbpf_dbg.specs.Commands.{run_to, run_out, within_limit, finished, limited}
-use Rattle.cbpf_dbg.specs.Cursor.{Stands, view_at, entry_here, Gives, run_from, step_from, ComesTo, NotBefore}
+use Rattle.cbpf_dbg.specs.Cursor.{Stands, view_at, entry_here, Gives, run_from, step_from, ComesTo}
 use Rattle.cbpf_dbg.specs.Cursor.{end_of_run, owed}
-use Rattle.cbpf_dbg.proofs.JoinedLemmas.{rest-none, ahead-end}
+use Rattle.cbpf_dbg.proofs.JoinedLemmas.{ahead-end}
 use Rattle.cbpf_dbg.specs.Breakpoints.{Breakpoints}
 
 -- ---- the limit
-
-pub not_before_forward : (new old : Place) → NotBefore new old → old.packet ≤ new.packet
-not_before_forward new old h = elim h [ inl more ↦ omega arith | inr same ↦ (let e = same.0 in omega arith) ]
 
 -- before the end the limit is not reached
 within_end : (limit : Option ℕ) (first packet count : ℕ) → packet < end_of_run limit first count → first ≤ packet
@@ -61,9 +58,11 @@ run_to_limit m machine capture (Some n) end (h ∷ more) is here later =
 pub rest-head : (machine : Machine) (capture : List Record) (breakpoints : Breakpoints) (place : Place) (h : Stop)
     (more : List Stop) → stops_after machine capture breakpoints place ≡ h ∷ more → is_before place h.place ≡ true
 rest-head machine capture breakpoints place h more e =
-    let at : Stop → Bool = λ k. is_before place k.place in
-    let passed = filter_passes at (stops_in machine capture breakpoints) in
-    All-head (λ (k : Stop). at k ≡ true) h more (rw e at passed)
+    let entries = entries_after machine capture place in
+    let after = All-filter (is_hit breakpoints) (λ (k : Entry). is_before place k.place ≡ true) entries
+    (filter_passes (λ (k : Entry). is_before place k.place) (joined machine capture)) in
+    All-head (λ (k : Stop). is_before place k.place ≡ true) h more (rw e at (All-map
+    (λ (k : Stop). is_before place k.place ≡ true) (stop_at why.Break) (filter (is_hit breakpoints) entries) after))
 
 rest-later : (machine : Machine) (capture : List Record) (breakpoints : Breakpoints) (place : Place) (h : Stop)
     (more : List Stop) → stops_after machine capture breakpoints place ≡ h ∷ more → place.packet ≤ h.place.packet
@@ -78,12 +77,12 @@ module _ (machine : Machine) (c : Savefile) (breakpoints : Breakpoints) (limit :
   abbrev pub view0 : View
   view0 = view_at machine c breakpoints w0
 
-  pub run_stopped : (w2 : Cursor) (h : Stop) → w2.origin ≡ w0.origin → NotBefore w2.place w0.place
+  pub run_stopped : (w2 : Cursor) (h : Stop) → w2.origin ≡ w0.origin
       → ComesTo machine c.records breakpoints end w0 (Some h) w2
       → Gives machine c breakpoints (run_from machine c.records limit) w0 w2 (Stopped h)
-  run_stopped w2 h origin order comes =
+  run_stopped w2 h origin comes =
       let inside = within_end limit w0.place.packet h.place.packet (length c.records) (rw is at comes.1)
-      (rw comes.0 at (not_before_forward w2.place w0.place order)) in
+      (rest-later machine c.records breakpoints w0.place h _ comes.2) in
       record {
         reply_is = rw (comes.2, inside) refl;
         place_is = rw (comes.2, inside) comes.0;
@@ -107,7 +106,7 @@ module _ (machine : Machine) (c : Savefile) (breakpoints : Breakpoints) (limit :
   none_ahead w1 comes past =
       let none : entries_after machine c.records w1.place ≡ [] = rw comes.0 (ahead-end machine c.records end 0 past) in (
         rw comes.0 (rw (ahead-end machine c.records end 0 past) refl),
-        sym comes.1 ∙ rest-none machine c.records breakpoints w1.place none,
+        sym comes.1 ∙ ap (stops_of breakpoints) none,
       )
 
   pub run_finished : (w1 w2 : Cursor) → Stands machine c.records w1 → w1.origin ≡ w0.origin

@@ -1,7 +1,7 @@
 -- The stops of a session are within its program and its capture.
 use Rattle.std.proofs.Common.{◌≡◌, ℕ, ◌+◌, ◌-◌, ◌<◌, ◌≤◌, List, [], ◌∷◌, length, suc, arith, subst, refl, ap, cond}
 use Rattle.std.proofs.Common.{Bool, true, false}
-use Rattle.std.specs.Prelude.{Option, Some, None, slice_get, filter, map, nat_le}
+use Rattle.std.specs.Prelude.{Option, Some, None, slice_get, filter, nat_le}
 use Rattle.std.specs.List.{All}
 use Rattle.std.specs.Option.{option_map}
 use Rattle.std.proofs.lemmas.List.Elements.{All-append, All-cons, All-filter, All-map, All-get_or, All-head}
@@ -75,11 +75,10 @@ module _ (machine : Machine) (capture : List Record) (reason : Why) where
 within-rest : (machine : Machine) (capture : List Record) (breakpoints : Breakpoints) (place : Place)
     → IsSound machine.list → All (IsWithin machine.list capture) (stops_after machine capture breakpoints place)
 within-rest machine capture breakpoints place sound =
-    let hits = filter (is_hit breakpoints) (joined machine capture) in
-    All-filter (λ (h : Stop). is_before place h.place) (IsWithin machine.list capture) (map (stop_at why.Break) hits)
-    (All-map (IsWithin machine.list capture) (stop_at why.Break) hits
-    (All-filter (is_hit breakpoints) (EntryWithin machine capture why.Break) (joined machine capture)
-    (within-joined machine capture why.Break sound)))
+    let entries = entries_after machine capture place in
+    All-map (IsWithin machine.list capture) (stop_at why.Break) (filter (is_hit breakpoints) entries)
+    (All-filter (is_hit breakpoints) (EntryWithin machine capture why.Break) entries
+    (within-ahead machine capture why.Break sound place))
 
 -- the stop of an answer, if it has one, is within the program and the capture
 abbrev ReplyWithin : Machine → List Record → RunReply → Type 0

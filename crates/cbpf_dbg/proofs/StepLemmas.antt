@@ -1,6 +1,6 @@
 -- How a step nears the entry that it seeks.
 use Rattle.std.proofs.Common.{◌≡◌, ℕ, zero, suc, ◌+◌, ◌-◌, ◌*◌, ◌<◌, ◌≤◌, ◌++◌, List, [], length, length-append, arith}
-use Rattle.std.proofs.Common.{append_assoc, sym, ap, ◌∙◌, refl, inl, inr, ◌^◌, ◌/◌, Bool, true, false}
+use Rattle.std.proofs.Common.{append_assoc, sym, ap, ◌∙◌, refl, ◌^◌, ◌/◌, Bool, true, false}
 use Rattle.std.specs.Prelude.{slice_get, min}
 use Rattle.std.proofs.lemmas.Nat.{le-div, mul-le}
 use Rattle.std.proofs.Math.Nat.{div-mul-le_self}
@@ -20,7 +20,7 @@ use Rattle.cbpf_dbg.specs.Loaded.{machine_in, records_in}
 use Rattle.cbpf_dbg.specs.Going.{GoesOn}
 use Rattle.cbpf_dbg.specs.Joined.{Entry, entries_after, packet_entries}
 use Rattle.cbpf_dbg.specs.Cursor.{Stands, Moves, Nears, Passes, entry_here}
-use Rattle.cbpf_dbg.proofs.JoinedLemmas.{place_at, ahead-whole}
+use Rattle.cbpf_dbg.proofs.JoinedLemmas.{place_at, ahead-whole, not_before_on, not_before_past}
 use Rattle.cbpf_dbg.proofs.RecordsLeftLemmas.{at_end}
 use Rattle.cbpf_dbg.proofs.FollowLemmas.{item_within}
 use Rattle.cbpf_dbg.proofs.GoingLemmas.{passes_more}
@@ -32,7 +32,7 @@ module _ (machine : Machine) (capture : List Record) where
       → Nears machine capture w w n n spent spent
   nears_none w n spent h some =
       record {
-        passes = record { stands = h; origin = refl; order = inr (refl, omega arith); spent = refl };
+        passes = record { stands = h; origin = refl; order = not_before_on w.place w.place refl (omega arith); spent = refl };
         some = some;
         sought = refl;
         fewer = omega arith;
@@ -102,18 +102,24 @@ module _ (machine : Machine) (capture : List Record) where
         },
       )
 
+  -- to the next entry
+  pub passes_entry : (w v : Cursor) (before after : ℕ) → Stands machine capture v → Moves machine capture w moved.Entry v
+      → v.origin ≡ w.origin → after ≡ before + min w.place.step 1 → Passes machine capture w v before after
+  passes_entry w v before after h m origin turns =
+      record {
+        stands = h;
+        origin = origin;
+        order = not_before_on w.place v.place m.2 (omega (arith, m.3));
+        spent = omega (arith, ap length m.4, m.3, turns);
+      }
+
   -- to an entry that isn't the one that is sought
   pub nears_entry : (w v : Cursor) (left before after : ℕ) → Stands machine capture v
       → Moves machine capture w moved.Entry v → v.origin ≡ w.origin → 2 ≤ left
       → after ≡ before + min w.place.step 1 → Nears machine capture w v left (left - 1) before after
   nears_entry w v left before after h m origin more turns =
       record {
-        passes = record {
-          stands = h;
-          origin = origin;
-          order = inr (sym m.2, omega (arith, m.3));
-          spent = omega (arith, ap length m.4, m.3, turns);
-        };
+        passes = passes_entry w v before after h m origin turns;
         some = omega (arith, more);
         sought = rw m.4 (slice_get-later (entry_here machine m.0 v) _ left more);
         fewer = omega (arith, ap length m.4);
@@ -128,7 +134,7 @@ module _ (machine : Machine) (capture : List Record) where
         passes = record {
           stands = h;
           origin = origin;
-          order = inl (omega (arith, ap (λ (q : Place). q.packet) m.0));
+          order = not_before_past w.place v.place (omega (arith, ap (λ (q : Place). q.packet) m.0));
           spent = omega (arith, ap length m.1, ap (λ (q : Place). q.step) m.0, turns);
         };
         some = some;

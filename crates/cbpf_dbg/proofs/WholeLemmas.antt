@@ -1,8 +1,7 @@
 -- Runs without a limit, one after another.
-use Rattle.std.proofs.Common.{◌≡◌, ℕ, ◌+◌, ◌^◌, ◌<◌, ◌≤◌, List, [], ◌∷◌, ◌++◌, length, arith, sym, ap, ◌∙◌, refl, true}
-use Rattle.std.specs.Prelude.{Option, Some, None, Result, Ok, Err, not, filter, map}
+use Rattle.std.proofs.Common.{◌≡◌, ℕ, ◌+◌, ◌^◌, ◌<◌, ◌≤◌, List, [], ◌∷◌, ◌++◌, length, arith, sym, ap, ◌∙◌, refl, true, false}
+use Rattle.std.specs.Prelude.{Option, Some, None, Result, Ok, Err}
 use Rattle.std.proofs.lemmas.Bool.Decides.{nat_tests}
-use Rattle.std.proofs.lemmas.List.Sums.{count_by-le-length}
 use Rattle.cbpf_code.specs.declared.insn.Insn.{Insn}
 use Rattle.cbpf_machine.specs.Machine.{Machine, machine_of}
 use Rattle.cbpf_code.specs.Sound.{IsSound}
@@ -13,17 +12,15 @@ use Rattle.cbpf_reply.specs.declared.reply.Stop.{Stop}
 use Rattle.cbpf_reply.specs.declared.reply.RunReply.TheVariants.{Stopped, Finished}
 use Rattle.cbpf_reply.specs.declared.reply.SessionFault.{SessionFault}
 use Rattle.cbpf_reply.specs.declared.reply.Counts.{Counts}
-use Rattle.cbpf_reply.specs.declared.reply.Why.TheVariants as why
 use Rattle.cbpf_reply.specs.Places.{is_before}
-use Rattle.cbpf_dbg.specs.Joined.{stops_in, Entry, joined, joined_from, entries_after, stops_after, is_hit, stop_at}
-use Rattle.cbpf_dbg.specs.Joined.{turns_between, turns_to_end, counts}
-use Rattle.cbpf_dbg.specs.Cursor.{NotBefore}
+use Rattle.cbpf_dbg.specs.Joined.{joined, entries_after, stops_of, stops_in, stops_after}
+use Rattle.cbpf_dbg.specs.Joined.{place_before, turns_between, turns_to_end, counts}
 use Rattle.cbpf_dbg.specs.View.{View, start}
 use Rattle.cbpf_dbg.specs.Commands.{reply_of, view_after, run, run_to_end, stops, all_stops, Found, last_place}
 use Rattle.cbpf_dbg.specs.Commands.{turns_forward, turns_left, Continues, stopped, finished}
-use Rattle.cbpf_dbg.proofs.TurnCountLemmas.{turns-split, length_joined}
+use Rattle.cbpf_dbg.proofs.TurnCountLemmas.{turns-fewer, few_after}
 use Rattle.cbpf_dbg.proofs.RunLemmas.{rest-head}
-use Rattle.cbpf_dbg.proofs.JoinedLemmas.{ahead-in, rest-ahead}
+use Rattle.cbpf_dbg.proofs.JoinedLemmas.{ahead-in}
 use Rattle.std.proofs.Common.{append_assoc, append-nil}
 use Rattle.cbpf_dbg.specs.Breakpoints.{Breakpoints}
 
@@ -75,17 +72,7 @@ module _ (machine : Machine) (c : Savefile) (v : View) (h : HasLoaded machine c 
       let same : stops_after machine c.records v.breakpoints v.place ≡ k.before = cc in
       same ∙ k.passes
 
-pub turns_to_end-bound : (machine : Machine) (capture : List Record) (place : Place) → IsSound machine.list
-    → length capture < 2 ^ 60 → turns_to_end machine capture place ≤ 2 ^ 76
-unfolding joined
-turns_to_end-bound machine capture place sound few =
-    omega (
-      arith,
-      count_by-le-length (λ (e : Entry). not (is_before e.place place)) (joined_from machine 1 capture),
-      length_joined machine 1 capture sound,
-    )
-
-after_is : (a b : Place) → is_before a b ≡ true → NotBefore b a
+after_is : (a b : Place) → is_before a b ≡ true → is_before b a ≡ false
 after_is a b h = grind (arith, nat_tests)
 
 -- the turns to a hit and from it to the end
@@ -93,8 +80,8 @@ pub turns-rest : (machine : Machine) (c : Savefile) (v : View) (stop : Stop) (le
     → stops_after machine c.records v.breakpoints v.place ≡ stop ∷ left → turns_to_end machine c.records v.place
     ≡ turns_between machine c.records v.place stop.place + turns_to_end machine c.records stop.place
 turns-rest machine c v stop left e =
-    turns-split machine c.records v.place stop.place
-    (after_is v.place stop.place (rest-head machine c.records v.breakpoints v.place stop left e))
+    let fewer = turns-fewer machine c.records v.place stop.place
+    (after_is v.place stop.place (rest-head machine c.records v.breakpoints v.place stop left e)) in omega (arith, fewer)
 
 -- from the start all hits are ahead
 ahead-start : (machine : Machine) (capture : List Record) → entries_after machine capture start ≡ joined machine capture
@@ -104,8 +91,7 @@ ahead-start machine (r ∷ more) = ahead-in machine (r ∷ more) 1 0 r (omega ar
 
 rest-start : (machine : Machine) (capture : List Record) (breakpoints : Breakpoints)
     → stops_after machine capture breakpoints start ≡ stops_in machine capture breakpoints
-rest-start machine capture breakpoints = rest-ahead machine capture breakpoints start
-    ∙ ap (λ es. map (stop_at why.Break) (filter (is_hit breakpoints) es)) (ahead-start machine capture)
+rest-start machine capture breakpoints = ap (stops_of breakpoints) (ahead-start machine capture)
 
 from_start-held : (program : Option (List Insn)) (capture : Option Savefile) (v : View) → v.program ≡ program
     → v.capture ≡ capture → v.place ≡ start → stops v ≡ all_stops v
@@ -139,7 +125,7 @@ last_place-append place (h ∷ hits) stop = last_place-append h.place hits stop
 module _ (machine : Machine) (c : Savefile) (old v : View) (f g : List Stop) (m n : ℕ)
     (h : Going machine c old v f g m n) where
   pub going-spare : n ≤ 2 ^ 127
-  going-spare = omega (arith, turns_to_end-bound machine c.records old.place h.sound h.few, h.spent, h.spare)
+  going-spare = omega (arith, few_after machine c.records (place_before old.place) h.sound h.few, h.spent, h.spare)
 
   pub going-found : Found old v f g
   going-found = record {

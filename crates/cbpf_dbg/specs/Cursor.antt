@@ -1,6 +1,6 @@
 -- A cursor over the entries of a capture. No public clause names it.
 use Rattle.std.specs.Prelude.{◌≡◌, ℕ, ◌+◌, ◌-◌, ◌≤◌, ◌<◌, List, ◌∷◌, length, slice_get, drop, Option, Some, None}
-use Rattle.std.specs.Prelude.{min, ◌⊎◌, ◌^◌}
+use Rattle.std.specs.Prelude.{min, ◌^◌, false}
 use Rattle.cbpf_code.specs.Sound.{IsSound}
 use Rattle.cbpf_machine.specs.Registers.{Registers, zero_state}
 use Rattle.cbpf_machine.specs.declared.outcome.Outcome.{Outcome}
@@ -14,6 +14,7 @@ use Rattle.pcap_classic.specs.Records.{Record}
 use Rattle.pcap_classic.specs.Savefile.{Savefile}
 use Rattle.cbpf_reply.specs.declared.reply.Place.{Place}
 use Rattle.cbpf_reply.specs.declared.reply.Counts.{Counts}
+use Rattle.cbpf_reply.specs.Places.{is_before}
 use Rattle.cbpf_dbg.specs.declared.cursor.Cursor.{Cursor}
 use Rattle.cbpf_dbg.specs.declared.cursor.Moved.{Moved}
 use Rattle.cbpf_dbg.specs.declared.cursor.Moved.TheVariants as moved
@@ -145,20 +146,12 @@ ComesTo machine capture breakpoints end old (Some h) new =
     (new.place ≡ h.place) × (h.place.packet < end)
     × (stops_after machine capture breakpoints old.place ≡ h ∷ stops_after machine capture breakpoints new.place)
 
--- one place is not before another
-abbrev pub NotBefore : Place → Place → Type 0
-NotBefore new old = (old.packet < new.packet) ⊎ ((old.packet ≡ new.packet) × (old.step ≤ new.step))
-
--- the place before an entry: the hits after it are those from the entry on. Before a packet it is the place itself
-abbrev pub before : Place → Place
-before place = record { packet = place.packet; step = place.step - 1 }
-
 -- a cursor went on, by the turns that it owes no longer
 pub record Passes (machine : Machine) (capture : List Record) (old new : Cursor) (spent_old spent_new : ℕ) :
     Type 0 where
   pub stands : Stands machine capture new
   pub origin : new.origin ≡ old.origin
-  pub order : NotBefore new.place old.place
+  pub order : is_before new.place old.place ≡ false
   pub spent : spent_new + owed machine capture new.place ≡ spent_old + owed machine capture old.place
 
 -- a cursor goes on, so that the entry that was n entries ahead is `left` entries ahead

@@ -8,9 +8,9 @@ use Rattle.cbpf_dbg.specs.declared.cursor.Walk.{Walk}
 use Rattle.cbpf_dbg.specs.declared.loaded.Loaded.{Loaded}
 use Rattle.cbpf_dbg.specs.Loaded.{machine_in, records_in, breakpoints_in}
 use Rattle.cbpf_dbg.specs.Breakpoints.{Breakpoints}
-use Rattle.cbpf_dbg.specs.Joined.{stops_after}
+use Rattle.cbpf_dbg.specs.Joined.{stops_after, place_before}
 use Rattle.cbpf_dbg.specs.Session.{hits, Keeps}
-use Rattle.cbpf_dbg.specs.Cursor.{Stands, IsEnd, AreLeft, Passes, before, owed}
+use Rattle.cbpf_dbg.specs.Cursor.{Stands, IsEnd, AreLeft, Passes, owed}
 
 -- a trail stands for the entries of a place's packet up to its step
 abbrev pub KeepsIn : {A : Type 0} → (List Registers → Type 0) → Loaded A → Place → Type 0
@@ -34,7 +34,7 @@ pub record GoesOn {A : Type 0} (l : Loaded A) (pauses : Registers → Bool) (old
     (paused : Bool) : Type 0 where
   pub passes : Passes (machine_in l) (records_in l) old.cursor new.cursor spent_old spent_new
   pub hits : Covers pauses (machine_in l) (breakpoints_in l) → stops_after (machine_in l) (records_in l) (breakpoints_in l)
-      old.cursor.place ≡ stops_after (machine_in l) (records_in l) (breakpoints_in l) (before new.cursor.place)
+      old.cursor.place ≡ stops_after (machine_in l) (records_in l) (breakpoints_in l) (place_before new.cursor.place)
   pub left : AreLeft (records_in l) new.cursor.place new.left
   pub ends : IsEnd (records_in l) new.cursor.place new.end
   pub same : new.end ≡ old.end

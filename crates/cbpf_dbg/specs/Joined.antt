@@ -1,7 +1,7 @@
 -- The entries of all packets of a capture, in order, the ones among them at which a debugger stops,
 -- and the outcomes of packets (this project's own, over the trace of Linux Documentation/networking/filter's machine
 -- and the records of pcap-savefile(5)).
-use Rattle.std.specs.Prelude.{ℕ, ◌+◌, ◌-◌, ◌&&◌, ◌||◌, not, Bool, List, [], ◌∷◌, ◌++◌}
+use Rattle.std.specs.Prelude.{ℕ, ◌+◌, ◌-◌, ◌||◌, Bool, List, [], ◌∷◌, ◌++◌, length}
 use Rattle.std.specs.Prelude.{map, filter, take, drop, count_by, is_some}
 use Rattle.std.specs.Option.{option_map_or}
 use Rattle.cbpf_machine.specs.Registers.{Registers}
@@ -65,13 +65,17 @@ why_of reason t = option_map_or why.Unknown (asked t) reason
 abbrev pub stop_at : Why → Entry → Stop
 stop_at reason e = record { place = e.place; state = e.state; why = why_of reason e.turn }
 
+-- the stops at the hits among some entries
+abbrev pub stops_of : Breakpoints → List Entry → List Stop
+stops_of breakpoints entries = map (stop_at why.Break) (filter (is_hit breakpoints) entries)
+
 -- the stops at all hits of a capture
 abbrev pub stops_in : Machine → List Record → Breakpoints → List Stop
-stops_in machine capture breakpoints = map (stop_at why.Break) (filter (is_hit breakpoints) (joined machine capture))
+stops_in machine capture breakpoints = stops_of breakpoints (joined machine capture)
 
 -- the stops at the hits after a place
 abbrev pub stops_after : Machine → List Record → Breakpoints → Place → List Stop
-stops_after machine capture breakpoints place = filter (λ h. is_before place h.place) (stops_in machine capture breakpoints)
+stops_after machine capture breakpoints place = stops_of breakpoints (entries_after machine capture place)
 
 -- the outcomes of the packets from a number up to, not including, another
 abbrev pub outcomes : Machine → List Record → ℕ → ℕ → List Outcome
@@ -84,11 +88,14 @@ counts machine capture from to =
     let all = outcomes machine capture from to in
     record { passes = count_by is_pass all; fails = count_by is_fail all; unknown = count_by is_unknown all }
 
--- how many turns lead from a place to a later one: the entries at or after the one and before the other
-abbrev pub turns_between : Machine → List Record → Place → Place → ℕ
-turns_between machine capture old new =
-    count_by (λ e. not (is_before e.place old) && is_before e.place new) (joined machine capture)
+-- the place before an entry: the entries after it are those from the entry on. Before a packet it is the place itself
+abbrev pub place_before : Place → Place
+place_before place = record { packet = place.packet; step = place.step - 1 }
 
--- how many turns lead from a place to the end
+-- how many turns lead from a place to the end: one for each entry from the place on
 abbrev pub turns_to_end : Machine → List Record → Place → ℕ
-turns_to_end machine capture old = count_by (λ e. not (is_before e.place old)) (joined machine capture)
+turns_to_end machine capture place = length (entries_after machine capture (place_before place))
+
+-- how many turns lead from a place to a later one
+abbrev pub turns_between : Machine → List Record → Place → Place → ℕ
+turns_between machine capture old new = turns_to_end machine capture old - turns_to_end machine capture new

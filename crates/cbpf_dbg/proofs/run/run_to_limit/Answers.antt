@@ -3,14 +3,14 @@ use Rattle.std.proofs.lemmas.Grind.{common_steps}
 use Rattle.cbpf_dbg.specs.Loaded.{machine_in, records_in}
 use Rattle.cbpf_dbg.proofs.RecordsLeftLemmas.{all_left, is_end, is_end_of_all, end_reckoned}
 use Rattle.cbpf_dbg.proofs.RunLemmas.{run_stopped, run_limited, run_finished, none_ahead}
-use Rattle.cbpf_dbg.proofs.TurnCountLemmas.{turns-reply, spent_between, owed-turns, owed_bound}
+use Rattle.cbpf_dbg.proofs.TurnCountLemmas.{turns-reply, spent_between, owed-turns, few_after}
 use Rattle.cbpf_dbg.proofs.run.run_to_limit.Goals as goal
 
 pub run_to_hit-stop-requires-clause-can : goal.run_to_hit-stop-requires-clause-can
 run_to_hit-stop-requires-clause-can g c =
     let ends = end_reckoned c.args.limit c.args.cursor.now.place.packet c.count-count.ensures.value
     c.args.loaded.now.few c.unwrap_or-most.ensures c.saturating_add.ensures c.min-end.ensures in
-    let most = owed_bound (machine_in c.args.loaded.now) (records_in c.args.loaded.now) c.args.cursor.now.place c.requires.stands.sound c.args.loaded.now.few in
+    let most = few_after (machine_in c.args.loaded.now) (records_in c.args.loaded.now) c.args.cursor.now.place c.requires.stands.sound c.args.loaded.now.few in
     record {
       stands = c.requires.stands;
       left = all_left _ _ _ (rw c.count-count.ensures.value at c.records_at.ensures);
@@ -26,7 +26,7 @@ returns-in-Some-clause-runs g c =
     let ends = end_reckoned c.args.limit c.args.cursor.now.place.packet c.count-count.ensures.value
     c.args.loaded.now.few c.unwrap_or-most.ensures c.saturating_add.ensures c.min-end.ensures in
     let came = c.in-Some.ensures in
-    run_stopped _ _ _ _ _ _ ends _ _ came.passes.origin came.passes.order came.comes
+    run_stopped _ _ _ _ _ _ ends _ _ came.passes.origin came.comes
 
 pub returns-in-Some-clause-inside : goal.returns-in-Some-clause-inside
 returns-in-Some-clause-inside g c = grind (arith, common_steps)
@@ -38,7 +38,7 @@ pub returns-in-Some-clause-turns : goal.returns-in-Some-clause-turns
 returns-in-Some-clause-turns g c =
     let came = c.in-Some.ensures in
     rw (turns-reply _ _ _ _ _ _ _ (returns-in-Some-clause-runs g c))
-    (spent_between _ _ _ _ _ _ c.requires.stands came.passes.stands came.passes.order came.passes.spent)
+    (spent_between _ _ _ _ _ _ c.requires.stands came.passes)
 
 pub returns-then-end-count-clause-stands : goal.returns-then-end-count-clause-stands
 returns-then-end-count-clause-stands g c = grind (arith, common_steps)
@@ -66,7 +66,7 @@ pub returns-then-end-count-clause-turns : goal.returns-then-end-count-clause-tur
 returns-then-end-count-clause-turns g c =
     let came = c.in_default.ensures in
     rw (turns-reply _ _ _ _ _ _ _ (returns-then-end-count-clause-runs g c))
-    (spent_between _ _ _ _ _ _ c.requires.stands came.passes.stands came.passes.order came.passes.spent)
+    (spent_between _ _ _ _ _ _ c.requires.stands came.passes)
 
 pub returns-clause-stands : goal.returns-clause-stands
 returns-clause-stands g c = grind (arith, common_steps)

@@ -1,20 +1,21 @@
-use Rattle.std.proofs.Common.{◌≡◌, ◌+◌, ◌-◌, length, arith, ap, ◌∙◌, Some, None, slice_get, refl}
+use Rattle.std.proofs.Common.{◌≡◌, ◌-◌, length, arith, ap, ◌∙◌, Some, None, slice_get, refl}
 use Rattle.std.proofs.lemmas.Grind.{common_steps}
 use Rattle.cbpf_dbg.specs.Joined.{entries_after}
-use Rattle.cbpf_dbg.specs.Cursor.{owed, entry_here}
+use Rattle.cbpf_dbg.specs.Cursor.{entry_here}
 use Rattle.cbpf_dbg.proofs.CursorLemmas.{goes}
 use Rattle.cbpf_dbg.proofs.RecordsLeftLemmas.{first_left, first_of, start_first, left_here, left_past, none_of, nothing_left, all_left}
 use Rattle.cbpf_dbg.proofs.RunLemmas.{slice_get-first, step_stopped, step_finished}
 use Rattle.cbpf_dbg.proofs.KeepLemmas.{keeps_push, keeps_few, keeps_clear}
-use Rattle.cbpf_dbg.proofs.StepLemmas.{nears_none, nears_more, nears_entry, nears_out}
-use Rattle.cbpf_dbg.proofs.TurnCountLemmas.{turns-reply, spent_between, owed-turns, not_before_step, owed_bound}
+use Rattle.cbpf_dbg.proofs.StepLemmas.{nears_none, nears_more, nears_entry, nears_out, passes_entry}
+use Rattle.cbpf_dbg.proofs.GoingLemmas.{passes_more}
+use Rattle.cbpf_dbg.proofs.TurnCountLemmas.{turns-reply, spent_between, owed-turns, few_after}
 use Rattle.cbpf_dbg.specs.Loaded.{machine_in, records_in}
 use Rattle.cbpf_dbg.proofs.step.step_on.Goals as goal
 use Rattle.cbpf_dbg.proofs.step.step_on.Goals.{then-cursor-eq0, else-cursor-eq0}
 
 pub skip_packets-left-requires-clause-spare : goal.skip_packets-left-requires-clause-spare
 skip_packets-left-requires-clause-spare g c =
-    let most = owed_bound (machine_in c.args.loaded.now) (records_in c.args.loaded.now) c.args.cursor.now.place c.requires.stands.sound c.args.loaded.now.few in
+    let most = few_after (machine_in c.args.loaded.now) (records_in c.args.loaded.now) c.args.cursor.now.place c.requires.stands.sound c.args.loaded.now.few in
     omega (arith, most, c.requires.early)
 
 pub go-init : goal.go-init
@@ -39,7 +40,7 @@ advance-requires-clause-here g c = first_left _ _ _ _ _ (first_of _ _ c.in-Some.
 -- no more turns are made than were owed
 pub advance-requires-clause-spare : goal.advance-requires-clause-spare
 advance-requires-clause-spare g c =
-    let most = owed_bound (machine_in c.args.loaded.now) (records_in c.args.loaded.now) c.args.cursor.now.place c.requires.stands.sound c.args.loaded.now.few in
+    let most = few_after (machine_in c.args.loaded.now) (records_in c.args.loaded.now) c.args.cursor.now.place c.requires.stands.sound c.args.loaded.now.few in
     omega (arith, most, c.requires.early, c.go.invariant.nears.passes.spent)
 
 pub push-requires : goal.push-requires
@@ -81,16 +82,11 @@ returns-then-left-eq1-clause-inside g c = grind (arith, common_steps)
 
 pub returns-then-left-eq1-clause-turns : goal.returns-then-left-eq1-clause-turns
 returns-then-left-eq1-clause-turns g c = λ breakpoints.
-    let m = c.in-Entry.ensures.moves in
-    let steps = returns-then-left-eq1-clause-steps g c breakpoints in
-    let order = not_before_step c.args.cursor.now.place c.go.cursor.place c.advance.new.cursor.place c.go.invariant.nears.passes.order m.2
-    (omega (arith, m.3)) in
-    let spent : c.advance.new.meter
-    + owed (machine_in c.args.loaded.now) (records_in c.args.loaded.now) c.advance.new.cursor.place
-    ≡ c.args.meter.now + owed (machine_in c.args.loaded.now) (records_in c.args.loaded.now) c.args.cursor.now.place =
-    omega (arith, ap length m.4, m.3, c.in-Entry.ensures.turns, c.go.invariant.nears.passes.spent) in
-    rw (turns-reply _ _ _ _ _ _ _ steps) (spent_between _ _ c.args.cursor.now c.advance.new.cursor
-    c.args.meter.now c.advance.new.meter c.requires.stands c.in-Entry.ensures.stands order spent)
+    let moved = c.in-Entry.ensures in
+    let on = passes_entry _ _ c.go.cursor c.advance.new.cursor c.go.meter c.advance.new.meter moved.stands moved.moves
+    moved.origin moved.turns in
+    rw (turns-reply _ _ _ _ _ _ _ (returns-then-left-eq1-clause-steps g c breakpoints))
+    (spent_between _ _ _ _ _ _ c.requires.stands (passes_more _ _ _ _ _ _ _ _ c.go.invariant.nears.passes on))
 
 pub go-preserved-in-Entry : goal.go-preserved-in-Entry
 go-preserved-in-Entry g c =
@@ -116,7 +112,7 @@ skip_packets-left-requires-in-Packet-clause-spare g c =
     let moved = c.in-Packet.ensures in
     let on = nears_out _ _ c.go.cursor c.advance.new.cursor c.go.left c.go.meter
     c.advance.new.meter moved.stands moved.moves moved.origin c.go.invariant.nears.some moved.turns in
-    let most = owed_bound (machine_in c.args.loaded.now) (records_in c.args.loaded.now) c.args.cursor.now.place c.requires.stands.sound c.args.loaded.now.few in
+    let most = few_after (machine_in c.args.loaded.now) (records_in c.args.loaded.now) c.args.cursor.now.place c.requires.stands.sound c.args.loaded.now.few in
     omega (arith, most, c.requires.early, c.go.invariant.nears.passes.spent, on.passes.spent)
 
 pub go-smaller : goal.go-smaller

@@ -1,7 +1,8 @@
-use Rattle.std.proofs.Common.{◌≡◌, ◌+◌, ◌∙◌, arith, length, refl}
+use Rattle.std.proofs.Common.{◌≡◌, ◌+◌, ◌∙◌, ap, arith, length, refl}
+use Rattle.cbpf_dbg.specs.Joined.{stops_of}
 use Rattle.cbpf_dbg.specs.Loaded.{breakpoints_in, records_in}
 use Rattle.cbpf_dbg.proofs.GoingLemmas.{at_hit, hits_out, watches_hits}
-use Rattle.cbpf_dbg.proofs.JoinedLemmas.{ahead-end, rest-none}
+use Rattle.cbpf_dbg.proofs.JoinedLemmas.{ahead-end}
 use Rattle.cbpf_dbg.proofs.stops.next_stop.Goals as goal
 use Rattle.cbpf_dbg.proofs.stops.next_stop.Goals.{then-not-go_on_in_packet+else-not-run_records, else-not-go_on_in_packet}
 
@@ -11,8 +12,7 @@ returns-then-not-run_records-clause-next g c =
     let ran = c.if-not-run_records.ensures.goes in
     let past : c.run_records.new.walk.cursor.place.packet ≡ length (records_in c.args.loaded.now) + 1 =
     c.if-not-run_records.ensures.none refl ∙ ran.same ∙ left.same ∙ c.requires.all in
-    let none = rest-none _ _ (breakpoints_in c.args.loaded.now) c.run_records.new.walk.cursor.place
-    (ahead-end _ _ _ _ (omega (arith, past))) in
+    let none = ap (stops_of (breakpoints_in c.args.loaded.now)) (ahead-end _ _ _ _ (omega (arith, past))) in
     let covers = watches_hits c.args.loaded.now in
     (hits_out _ _ _ _ _ _ left covers ∙ hits_out _ _ _ _ _ _ ran covers ∙ none, none)
 

@@ -3,7 +3,7 @@ use Rattle.cbpf_dbg.proofs.WholeLemmas.{HasLoaded}
 use Rattle.std.proofs.Common.{arith, refl, Some}
 use Rattle.cbpf_dbg.specs.Session.{Fits, IsKnown}
 use Rattle.cbpf_dbg.proofs.RecordsLeftLemmas.{all_left, is_end_of_all}
-use Rattle.cbpf_dbg.proofs.TurnCountLemmas.{few_hits, owed_bound}
+use Rattle.cbpf_dbg.proofs.TurnCountLemmas.{few_hits, few_after}
 use Rattle.cbpf_dbg.proofs.CarryLemmas.{known-sound}
 use Rattle.cbpf_dbg.proofs.HereLemmas.{returns-rest}
 use Rattle.cbpf_dbg.proofs.ShownStops.{shows-rest}
@@ -42,7 +42,7 @@ invariant_of-result g c =
     rw (c.in-Some.is, c.in-Some-capture.is) at c.self.invariant.0 in
     let known : IsKnown c.self.inside.needs_no_value c.self.inside.watched (Some c.in-Some.program)
     c.self.inside.values c.self.inside.breakpoints.entries = rw c.in-Some.is at c.self.invariant.1 in
-    let few = owed_bound machine records c.self.inside.cursor.place known.3
+    let few = few_after machine records c.self.inside.cursor.place known.3
     (omega (arith, c.count-few.ensures.value, c.count-few.ensures.bounded)) in (
       record {
         stands = fits.0;
