@@ -94,7 +94,7 @@ module _ (needs_no_value : Bool) (old : Watching) (program : Option (List Insn))
     held.0,
     record {
       hits_are = λ bytes wire s inside. ap (λ w. is_met w s) (same s.pc).watch ∙ held.1.hits_are bytes wire s inside;
-      knows = λ i insn at. rw (same i).code (held.1.knows i insn at);
+      knows = λ i insn at. rw ((same i).code, (same i).first) (held.1.knows i insn at);
     },
     room-more before (room_in old) (room_in new) more held.2,
     held.3,

@@ -35,7 +35,7 @@ scan-preserved g c =
           elim (cases_lt i c.scan.i) [
             | inl seen ↦
                 let other : i ≢ c.scan.i = λ e. omega (arith, e, seen) in
-                rw (c.set.ensures.others i other).code (c.scan.invariant.knows i insn seen at)
+                rw ((c.set.ensures.others i other).code, (c.set.ensures.others i other).first) (c.scan.invariant.knows i insn seen at)
             | inr last ↦
                 let here : i ≡ c.scan.i = omega (arith, before, last) in
                 let there : slice_get c.args.p.now c.scan.i ≡ Some insn = rw (← here) at in

@@ -26,6 +26,6 @@ returns-clause-watches g c = λ before watches same.
                 let there : slice_get c.args.p.now c.args.i ≡ Some insn = rw (← here) at in
                 let one : c.at_index.result ≡ insn = cc (c.at_index.ensures.value, there) in
                 rw (here, ← one) c.set.ensures.knows
-            | inr other ↦ rw (c.set.ensures.others i other).code (watches.knows i insn at)
+            | inr other ↦ rw ((c.set.ensures.others i other).code, (c.set.ensures.others i other).first) (watches.knows i insn at)
           ];
     }

@@ -18,7 +18,7 @@ all-preserved c =
           elim (cases_lt i c.all.i) [
             | inl seen ↦
                 let other : i ≢ c.all.i = λ e. omega (arith, e, seen) in
-                rw (c.set.ensures.others i other).code (c.all.invariant.knows i insn seen at)
+                rw ((c.set.ensures.others i other).code, (c.set.ensures.others i other).first) (c.all.invariant.knows i insn seen at)
             | inr last ↦
                 let here : i ≡ c.all.i = omega (arith, before, last) in
                 let there : slice_get c.args.p.now c.all.i ≡ Some insn = rw (← here) at in
