@@ -32,6 +32,8 @@ What is there stands in the documents:
   a command, an option, an error
                    of the program: a case has it, and so have docs/REFERENCE.md and man/cbpf.1
   a short form     of cbpf-shell: tests/shell.py, docs/REFERENCE.md and man/cbpf-shell.1 have it
+  an extension     of the table: the lists in helps, completion, docs/REFERENCE.md and man/cbpf.1 have it, all of them,
+                   or those of the ones that take a value
   a case           a line of tests/shown.txt names it
   a type           that is public and has `==`: it has a clause in src/equality.rt of its crate
   a file           of src/ or specs/: it opens with a comment that says what it is about
@@ -565,6 +567,36 @@ def check_short_forms():
         check(re.search(rf'"{word}[" \\]', text_of(tests)), tests, 1, f"no short form {word}")
 
 
+# Where the extensions are listed, and how many lists there are: those that take a value, or all of them.
+EXTENSION_LISTS = {
+    "completion/_cbpf": 1,
+    "completion/cbpf.bash": 1,
+    "completion/cbpf.fish": 1,
+    "crates/cbpf_command_line/src/parse.rt": 1,
+    "crates/cbpf_command_line/src/why.rt": 1,
+    "docs/REFERENCE.md": 2,
+    "man/cbpf.1": 3,
+}
+
+
+def check_extensions():
+    """Whether each list of extensions, in helps, completion, reference and manual page, has the names of the table."""
+    rows = re.findall(r'=> Ext::(\w+), "(\w+)";', text_of(CRATES / "cbpf_code/src/extension.rt"))
+    take_none = re.findall(r"^takes_value (\w+) = false$", text_of(CRATES / "cbpf_machine/specs/Values.antt"), re.M)
+    every = {name for _, name in rows}
+    with_value = {name for variant, name in rows if variant not in take_none}
+    first, last = rows[0][1], rows[-1][1]
+    for place, wanted in EXTENSION_LISTS.items():
+        text = text_of(TOP / place)
+        # A list ends with the last name of the table, or with one more soon after it.
+        lists = re.findall(rf"\b{first}\b(?:(?!\b{first}\b).)*?\b{last}\b.{{0,20}}", text, re.S)
+        check(len(lists) >= wanted, TOP / place, 1, f"{len(lists)} lists of extensions")
+        for found in lists:
+            named = every & set(re.findall(r"\w+", found))
+            line = text[: text.index(found)].count("\n") + 1
+            check(named in (every, with_value), TOP / place, line, "a list of extensions that isn't that of the table")
+
+
 def check_all_shown(path):
     """Whether each case is named in the list of what is shown."""
     named = set(re.findall(r" \| case ([\w/]+)", text_of(path)))
@@ -588,6 +620,7 @@ def main():
         look_up(TOP / "tests/shown.txt")
     check_covered()
     check_short_forms()
+    check_extensions()
     documents = [TOP / "README.md", TOP / "CONTRIBUTING.md"]
     folders = "docs/*.md bench/*.md tests/*.md crates/*/README* crates/*/CALLING.md crates/*/must-fail/README.md"
     for pattern in folders.split():
