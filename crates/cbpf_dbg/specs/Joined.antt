@@ -88,7 +88,7 @@ counts machine capture from to =
     let all = outcomes machine capture from to in
     record { passes = count_by is_pass all; fails = count_by is_fail all; unknown = count_by is_unknown all }
 
--- the place before an entry: the entries after it are those from the entry on. Before a packet it is the place itself
+-- the place before another: the entries after it are those from the other one on. At step 0 it is the place itself
 abbrev pub place_before : Place → Place
 place_before place = record { packet = place.packet; step = place.step - 1 }
 
