@@ -83,7 +83,7 @@ test: built ## Looks up whether CHANGES names what has changed; runs the end-to-
 bench: built ## Measures the program that is built beside its peers, and writes the tables of bench/README.md and bench/growth.svg.
 	python3 bench/all.py
 
-check: ## The gate: proves all crates and their tests from nothing, tries the must-fail edits, runs all tests; an hour or more on two processors, by the machine.
+check: ## The gate: proves all crates and their tests, tries the must-fail edits, runs all tests; for the first time on a machine in an hour or more on two processors, later in less, as only what changed and what stands above it is proved and tried.
 	python3 tests/names.py
 	python3 tests/changes.py
 	@python3 tools/check.py
