@@ -10,7 +10,9 @@ use Rattle.cbpf_machine.specs.Registers.{Registers, zero_state}
 use Rattle.cbpf_machine.specs.declared.follow.Followed.{Followed}
 use Rattle.cbpf_machine.specs.declared.follow.Followed.TheVariants.{Paused, Ended}
 use Rattle.cbpf_machine.specs.Trace.{trace, outcome}
-use Rattle.cbpf_machine.specs.Follow.{Follows, Unpaused, turns_to}
+use Rattle.cbpf_machine.specs.Follow.{follow_ahead, unpaused_len}
+use Rattle.cbpf_machine.specs.Together.{Unpaused}
+use Rattle.cbpf_machine.proofs.FollowLemmas.{PausesFirst, ended_of, paused_of}
 use Rattle.cbpf_machine.proofs.TraceLemmas.{goes_from_entry, length-trace_from}
 use Rattle.cbpf_machine.proofs.SoundLemmas.{sound_few}
 use Rattle.pcap_classic.specs.Records.{Record}
@@ -106,14 +108,13 @@ module _ (machine : Machine) (capture : List Record) (w : Cursor) (r : Record) (
         (goes_from_entry _ h.sound i s there).inside)
         (unpaused i s from to there)
 
-    on_hits : (n : ℕ) (s : Registers)
-        → Follows pauses xs (outcome machine r.bytes r.wire) w.place.step w.state s (Paused n)
+    on_hits : (n : ℕ) (s : Registers) → PausesFirst pauses xs w.place.step n s
         → stops_after machine capture breakpoints w.place
         ≡ stops_after machine capture breakpoints (place_at w.place.packet (w.place.step + n - 1))
     on_hits n s f =
         let m : ℕ = w.place.step + n - 1 in
-        let within = slice_get_within xs m s f.2 in
-        entries-passed breakpoints w.place.step (n - 1) m (omega (arith, f.0)) (omega (arith, within)) (no_hits m f.1)
+        let within = slice_get_within xs m s f.at in
+        entries-passed breakpoints w.place.step (n - 1) m (omega (arith, f.some)) (omega (arith, within)) (no_hits m f.unpaused)
 
     end_hits : Unpaused pauses xs w.place.step (length xs)
         → stops_after machine capture breakpoints w.place ≡ stops_after machine capture breakpoints (place_at (w.place.packet + 1) 0)
@@ -124,80 +125,86 @@ module _ (machine : Machine) (capture : List Record) (w : Cursor) (r : Record) (
         ∙ ap (stops_of breakpoints) leave
 
   module _ (pauses : Registers → Bool) where
-    on_owed : (n : ℕ) (s : Registers)
-        → Follows pauses xs (outcome machine r.bytes r.wire) w.place.step w.state s (Paused n)
+    on_owed : (n : ℕ) (s : Registers) → PausesFirst pauses xs w.place.step n s
         → owed machine capture w.place + 1 ≡ n + owed machine capture (moved_on w n s).place + min w.place.step 1
     on_owed n s f =
-        let some = f.0 in
+        let some = f.some in
         omega (
           arith,
           ahead_long w.place.step step_within,
-          ahead_long (w.place.step + n) (omega (arith, slice_get_within xs (w.place.step + n - 1) s f.2, some)),
+          ahead_long (w.place.step + n) (omega (arith, slice_get_within xs (w.place.step + n - 1) s f.at, some)),
           some,
         )
 
     -- the steps can be counted
-    pub steps_fit : (k : ℕ) (f : Followed) (s : Registers) → k ≡ w.place.step
-        → Follows pauses xs (outcome machine r.bytes r.wire) k w.state s f → (n : ℕ) → f ≡ Paused n
+    pub steps_fit : (n : ℕ) (s : Registers)
+        → (Paused n, s) ≡ follow_ahead pauses (drop w.place.step xs) (outcome machine r.bytes r.wire) w.state
         → w.place.step + n ≤ MAX_INSTRUCTIONS
-    steps_fit k f s step follows n e =
-        let on : Follows pauses xs (outcome machine r.bytes r.wire) w.place.step w.state s (Paused n) =
-        rw (step, e) at follows in
-        omega (arith, slice_get_within xs (w.place.step + n - 1) s on.2, steps_few)
+    steps_fit n s follows =
+        let on = (paused_of pauses xs w.place.step n s _ _ follows).0 in
+        omega (arith, slice_get_within xs (w.place.step + n - 1) s on.at, steps_few)
 
 module _ {A : Type 0} (l : Loaded A) (w : Cursor) (r : Record) (h : Stands (machine_in l) (records_in l) w)
     (at : slice_get (records_in l) (w.place.packet - 1) ≡ Some r) (pauses : Registers → Bool) where
   abbrev entries : List Registers
   entries = trace (machine_in l) r.bytes r.wire
 
-  -- where the packet was followed from its k-th entry on
-  pub goes_to_entry : (k : ℕ) (f : Followed) (s : Registers) (v : Cursor) (before after : ℕ)
-      (left others : List Record) (end : ℕ) → AreLeft (records_in l) w.place left
-      → IsEnd (records_in l) w.place end → w.place.packet < end → k ≡ w.place.step → moved.Entry ≡ moved_by f
-      → v ≡ followed (record w { state = s }) f → Follows pauses entries (outcome (machine_in l) r.bytes r.wire) k w.state s f
-      → after + 1 ≡ before + turns_to entries k f + min k 1 → left ≡ r ∷ others
-      → GoesOn l pauses (record { cursor = w; left = left; end = end }) (record { cursor = v; left = left; end = end }) before after true
-  goes_to_entry k (Ended o) s v before after left others end there ends early step moves e f turns is = absurd cc
-  goes_to_entry k (Paused n) s v before after left others end there ends early step moves e f turns is =
-      let on : Follows pauses entries (outcome (machine_in l) r.bytes r.wire) w.place.step w.state s (Paused n) = rw step at f in
-      rw e (record {
-        passes = record {
-          stands = stands_at _ _ w r h at (w.place.step + n) s on.2;
-          origin = refl;
-          order = not_before_on w.place _ refl (omega arith);
-          spent = omega (arith, on_owed _ _ w r h at pauses n s on, turns, step);
-        };
-        hits = λ covers. on_hits _ _ w r h at _ pauses covers n s on;
-        left = left_here (records_in l) w.place (moved_on w n s).place left there refl;
-        ends = record { within = ends.within; most = ends.most; later = λ _. early };
-        same = refl;
-        entry = λ _. (omega (arith, on.0), on.3);
-        out = λ (z : true ≡ false). absurd cc;
-      })
+  -- where the packet was followed from the cursor on
+  module _ (f : Followed) (s : Registers) (v : Cursor) (before after : ℕ) (left others : List Record) (end : ℕ)
+      (there : AreLeft (records_in l) w.place left) (ends : IsEnd (records_in l) w.place end) (early : w.place.packet < end)
+      (to : v ≡ followed (record w { state = s }) f)
+      (follows : (f, s) ≡ follow_ahead pauses (drop w.place.step entries) (outcome (machine_in l) r.bytes r.wire) w.state)
+      (turns : after ≡ before + unpaused_len pauses (drop w.place.step entries) + min w.place.step 1)
+      (is : left ≡ r ∷ others) where
+    pub goes_to_entry : moved.Entry ≡ moved_by f
+        → GoesOn l pauses (record { cursor = w; left = left; end = end }) (record { cursor = v; left = left; end = end }) before after true
+    goes_to_entry moves = go f refl moves
+      where
+        go : (g : Followed) → f ≡ g → moved.Entry ≡ moved_by g
+            → GoesOn l pauses (record { cursor = w; left = left; end = end }) (record { cursor = v; left = left; end = end }) before after true
+        go (Ended o) e moves = absurd cc
+        go (Paused n) e moves =
+            let of = paused_of pauses entries w.place.step n s _ _ (rw e at follows) in
+            let on = of.0 in
+            let some = on.some in
+            rw (to, e) (record {
+              passes = record {
+                stands = stands_at _ _ w r h at (w.place.step + n) s on.at;
+                origin = refl;
+                order = not_before_on w.place _ refl (omega arith);
+                spent = omega (arith, on_owed _ _ w r h at pauses n s on, turns, of.1);
+              };
+              hits = λ covers. on_hits _ _ w r h at _ pauses covers n s on;
+              left = left_here (records_in l) w.place (moved_on w n s).place left there refl;
+              ends = record { within = ends.within; most = ends.most; later = λ _. early };
+              same = refl;
+              entry = λ _. (omega (arith, some), on.here);
+              out = λ (z : true ≡ false). absurd cc;
+            })
 
-  pub goes_out : (k : ℕ) (f : Followed) (s : Registers) (v : Cursor) (before after : ℕ)
-      (left others : List Record) (end : ℕ) → AreLeft (records_in l) w.place left
-      → IsEnd (records_in l) w.place end → w.place.packet < end → k ≡ w.place.step → moved.Packet ≡ moved_by f
-      → v ≡ followed (record w { state = s }) f → Follows pauses entries (outcome (machine_in l) r.bytes r.wire) k w.state s f
-      → after + 1 ≡ before + turns_to entries k f + min k 1 → left ≡ r ∷ others
-      → GoesOn l pauses (record { cursor = w; left = left; end = end }) (record { cursor = v; left = others; end = end }) before after false
-  goes_out k (Paused n) s v before after left others end there ends early step moves e f turns is = absurd cc
-  goes_out k (Ended o) s v before after left others end there ends early step moves e f turns is =
-      let on : Follows pauses entries (outcome (machine_in l) r.bytes r.wire) w.place.step w.state s (Ended o) = rw step at f in
-      let leave = ahead-leave (machine_in l) (records_in l) w.place.packet (length entries) r (from_one _ _ w r h at) at (omega arith) in
-      let same : passed w (outcome (machine_in l) r.bytes r.wire) ≡ passed (record w { state = s }) o =
-      rw (on.1, on.2) refl in
-      rw e (record {
-        passes = record {
-          stands = subst (λ u. Stands (machine_in l) (records_in l) u) same (stands-passed _ _ w r h at);
-          origin = refl;
-          order = not_before_past w.place _ (omega arith);
-          spent = omega (arith, ahead_long _ _ w r h at w.place.step (step_within _ _ w r h at), ap length leave, turns, step, (step_within _ _ w r h at));
-        };
-        hits = λ covers. end_hits _ _ w r h at _ pauses covers on.0;
-        left = left_past (records_in l) w.place left r others is there (from_one _ _ w r h at);
-        ends = record { within = ends.within; most = omega (arith, early); later = λ (z : 0 < 0). absurd (omega arith) };
-        same = refl;
-        entry = λ (z : false ≡ true). absurd cc;
-        out = λ _. refl;
-      })
+    pub goes_out : moved.Packet ≡ moved_by f
+        → GoesOn l pauses (record { cursor = w; left = left; end = end }) (record { cursor = v; left = others; end = end }) before after false
+    goes_out moves = go f refl moves
+      where
+        go : (g : Followed) → f ≡ g → moved.Packet ≡ moved_by g
+            → GoesOn l pauses (record { cursor = w; left = left; end = end }) (record { cursor = v; left = others; end = end }) before after false
+        go (Paused n) e moves = absurd cc
+        go (Ended o) e moves =
+            let step_within = step_within _ _ w r h at in
+            let of = ended_of pauses entries w.place.step o _ s _ step_within (rw e at follows) in
+            let leave = ahead-leave (machine_in l) (records_in l) w.place.packet (length entries) r (from_one _ _ w r h at) at (omega arith) in
+            let same : passed w (outcome (machine_in l) r.bytes r.wire) ≡ passed (record w { state = s }) o = rw (of.1, of.2) refl in
+            rw (to, e) (record {
+              passes = record {
+                stands = subst (λ u. Stands (machine_in l) (records_in l) u) same (stands-passed _ _ w r h at);
+                origin = refl;
+                order = not_before_past w.place _ (omega arith);
+                spent = omega (arith, ahead_long _ _ w r h at w.place.step step_within, ap length leave, turns, of.3, step_within);
+              };
+              hits = λ covers. end_hits _ _ w r h at _ pauses covers of.0;
+              left = left_past (records_in l) w.place left r others is there (from_one _ _ w r h at);
+              ends = record { within = ends.within; most = omega (arith, early); later = λ (z : 0 < 0). absurd (omega arith) };
+              same = refl;
+              entry = λ (z : false ≡ true). absurd cc;
+              out = λ _. refl;
+            })

@@ -1,10 +1,10 @@
 //! Runs to the next hit.
 
-ghost use Rattle.std.specs.Prelude.{◌≡◌, ◌≢◌, ◌+◌, ◌-◌, ◌*◌, ◌<◌, ◌≤◌, ◌^◌, ℕ, List, [], Some, true, false, OnSome, take};
+ghost use Rattle.std.specs.Prelude.{◌≡◌, ◌≢◌, ◌+◌, ◌-◌, ◌*◌, ◌<◌, ◌≤◌, ◌^◌, ℕ, List, [], Some, true, false, OnSome, take, drop};
 ghost use Rattle.cbpf_code.specs.Sound.{IsSound};
 ghost use Rattle.cbpf_code.specs.declared.checker.TheConstants.{MAX_INSTRUCTIONS};
 ghost use Rattle.cbpf_machine.specs.Registers.{Registers};
-ghost use Rattle.cbpf_machine.specs.Follow.{Follows, KnowsEach, is_watched, turns_to};
+ghost use Rattle.cbpf_machine.specs.Follow.{KnowsEach, follow_ahead, is_watched, unpaused_len};
 ghost use Rattle.cbpf_machine.specs.declared.follow.Followed.TheVariants as followed;
 ghost use Rattle.pcap_classic.specs.Records.{StartsAt};
 ghost use Rattle.cbpf_dbg.specs.Commands.{AgreesWithHits};
@@ -38,9 +38,9 @@ pub(crate) trait Keeper<P: Pause, A: Allocator> {
     ) -> Followed
         requires spare { meter.old + 2 * MAX_INSTRUCTIONS ≤ 2 ^ 128 }
         requires knows { KnowsEach (λ i insn. P.knows pause.now i insn) task.now.program.now }
-        ensures follows { Follows (λ s. P.pauses pause.now s) (entries_in task.now) (outcome_in task.now) 0
-            state.old state.new result }
-        ensures turns { meter.new + 1 ≡ meter.old + turns_to (entries_in task.now) 0 result }
+        ensures follows { (result, state.new) ≡ follow_ahead (λ s. P.pauses pause.now s) (entries_in task.now)
+            (outcome_in task.now) state.old }
+        ensures turns { meter.new ≡ meter.old + unpaused_len (λ s. P.pauses pause.now s) (entries_in task.now) }
         ensures stands { (n : ℕ) → result ≡ followed.Paused n
             → stands_for self.new (take n (entries_in task.now)) };
 
@@ -57,9 +57,10 @@ pub(crate) trait Keeper<P: Pause, A: Allocator> {
         requires spare { meter.old + 2 * MAX_INSTRUCTIONS ≤ 2 ^ 128 }
         requires knows { KnowsEach (λ i insn. P.knows pause.now i insn) task.now.program.now }
         ensures follows { (k : ℕ) → KeepsTo (λ xs. stands_for self.old xs) (entries_in task.now) k state.old
-            → Follows (λ s. P.pauses pause.now s) (entries_in task.now) (outcome_in task.now) k state.old state.new result }
+            → (result, state.new) ≡ follow_ahead (λ s. P.pauses pause.now s) (drop k (entries_in task.now))
+            (outcome_in task.now) state.old }
         ensures turns { (k : ℕ) → KeepsTo (λ xs. stands_for self.old xs) (entries_in task.now) k state.old
-            → meter.new ≡ meter.old + turns_to (entries_in task.now) k result }
+            → meter.new ≡ meter.old + unpaused_len (λ s. P.pauses pause.now s) (drop k (entries_in task.now)) + 1 }
         ensures stands { (k : ℕ) → KeepsTo (λ xs. stands_for self.old xs) (entries_in task.now) k state.old
             → (n : ℕ) → result ≡ followed.Paused n → stands_for self.new (take (k + n) (entries_in task.now)) };
 }

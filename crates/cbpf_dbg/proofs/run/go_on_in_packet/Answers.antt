@@ -33,8 +33,8 @@ apply-requires-clause-steps g c = λ n e.
     let begun : 0 < c.args.walk.now.cursor.place.step = omega (arith, c.if-walk-eq0.false) in
     let at = keeps_to (λ xs. g.K.Keeper.stands_for c.args.keeper.now xs) _ _ _ (record_of c.front-here.result)
     c.requires.can.stands here begun c.requires.keeps in
-    let fit = steps_fit _ _ _ (record_of c.front-here.result) c.requires.can.stands here _ _ c.follow_on-followed.result
-    c.follow_on-followed.new.state refl (c.follow_on-followed.ensures.follows _ at) n e in
+    let fit = steps_fit _ _ _ (record_of c.front-here.result) c.requires.can.stands here _ n
+    c.follow_on-followed.new.state (rw e at (c.follow_on-followed.ensures.follows _ at)) in
     omega (arith, fit)
 
 pub returns-in-Entry-clause-goes : goal.returns-in-Entry-clause-goes
@@ -44,11 +44,12 @@ returns-in-Entry-clause-goes g c =
     let begun : 0 < c.args.walk.now.cursor.place.step = omega (arith, c.if-walk-eq0.false) in
     let at = keeps_to (λ xs. g.K.Keeper.stands_for c.args.keeper.now xs) _ _ _ (record_of c.front-here.result)
     c.requires.can.stands here begun c.requires.keeps in
-    goes_to_entry _ _ (record_of c.front-here.result) c.requires.can.stands here _ _ c.follow_on-followed.result
+    let turns = c.follow_on-followed.ensures.turns _ at in
+    goes_to_entry _ _ (record_of c.front-here.result) c.requires.can.stands here _ c.follow_on-followed.result
     c.follow_on-followed.new.state c.apply.new.self c.args.meter.now c.follow_on-followed.new.meter
-    c.args.walk.now.left _ _ c.requires.can.left c.requires.can.ends (c.requires.can.ends.later begun) refl
-    c.in-Entry.ensures.moved c.in-Entry.ensures.cursor (c.follow_on-followed.ensures.follows _ at)
-    (omega (arith, c.follow_on-followed.ensures.turns _ at, begun)) is
+    c.args.walk.now.left _ _ c.requires.can.left c.requires.can.ends (c.requires.can.ends.later begun)
+    c.in-Entry.ensures.cursor (c.follow_on-followed.ensures.follows _ at) (omega (arith, turns, begun)) is
+    c.in-Entry.ensures.moved
 
 pub returns-in-Entry-clause-keeps : goal.returns-in-Entry-clause-keeps
 returns-in-Entry-clause-keeps g c = λ _.
@@ -66,8 +67,9 @@ returns-clause-goes g c =
     let begun : 0 < c.args.walk.now.cursor.place.step = omega (arith, c.if-walk-eq0.false) in
     let at = keeps_to (λ xs. g.K.Keeper.stands_for c.args.keeper.now xs) _ _ _ (record_of c.front-here.result)
     c.requires.can.stands here begun c.requires.keeps in
-    goes_out _ _ (record_of c.front-here.result) c.requires.can.stands here _ _ c.follow_on-followed.result
+    let turns = c.follow_on-followed.ensures.turns _ at in
+    goes_out _ _ (record_of c.front-here.result) c.requires.can.stands here _ c.follow_on-followed.result
     c.follow_on-followed.new.state c.apply.new.self c.args.meter.now c.follow_on-followed.new.meter
-    c.args.walk.now.left _ _ c.requires.can.left c.requires.can.ends (c.requires.can.ends.later begun) refl
-    c.in_default.ensures.moved c.in_default.ensures.cursor (c.follow_on-followed.ensures.follows _ at)
-    (omega (arith, c.follow_on-followed.ensures.turns _ at, begun)) c.pass.ensures
+    c.args.walk.now.left _ _ c.requires.can.left c.requires.can.ends (c.requires.can.ends.later begun)
+    c.in_default.ensures.cursor (c.follow_on-followed.ensures.follows _ at) (omega (arith, turns, begun)) c.pass.ensures
+    c.in_default.ensures.moved

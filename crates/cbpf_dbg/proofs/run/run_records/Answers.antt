@@ -27,10 +27,10 @@ returns-in-Paused-clause-goes g c =
     let step = so.out refl in
     let sum : c.go.walk.cursor.place.step + c.in-Paused.entries ≡ c.in-Paused.entries = omega (arith, step) in
     goes_more _ _ _ _ _ _ _ _ _ so (goes_to_entry _ _ (record_of c.front-here.result)
-    so.passes.stands here _ 0 c.follow_packet.result c.follow_packet.new.state _ c.go.meter
-    c.follow_packet.new.meter c.go.walk.left _ _ so.left so.ends (omega (arith, c.go-test.true, so.same)) (omega (arith, step)) (rw c.in-Paused.is refl)
-    (rw (c.in-Paused.is, sum) refl) c.follow_packet.ensures.follows
-    (omega (arith, c.follow_packet.ensures.turns)) is)
+    so.passes.stands here _ c.follow_packet.result c.follow_packet.new.state _ c.go.meter
+    c.follow_packet.new.meter c.go.walk.left _ _ so.left so.ends (omega (arith, c.go-test.true, so.same))
+    (rw (c.in-Paused.is, sum) refl) (rw step c.follow_packet.ensures.follows)
+    (rw step (omega (arith, c.follow_packet.ensures.turns))) is (rw c.in-Paused.is refl))
 
 pub returns-in-Paused-clause-keeps : goal.returns-in-Paused-clause-keeps
 returns-in-Paused-clause-keeps g c = λ _ r there.
@@ -44,11 +44,12 @@ pub go-preserved : goal.go-preserved
 go-preserved g c =
     let so = c.go.invariant in
     let here = first_left _ _ _ _ _ c.pass.ensures so.left in
+    let step = so.out refl in
     goes_more _ _ _ _ _ _ _ _ _ so (goes_out _ _ (record_of c.front-here.result)
-    so.passes.stands here _ 0 c.follow_packet.result c.follow_packet.new.state c.finish_whole_packet.new.self c.go.meter
-    c.follow_packet.new.meter c.go.walk.left _ _ so.left so.ends (omega (arith, c.go-test.true, so.same)) (omega (arith, so.out refl)) (rw c.in-Ended.is refl)
-    (c.finish_whole_packet.ensures ∙ rw c.in-Ended.is refl) c.follow_packet.ensures.follows
-    (omega (arith, c.follow_packet.ensures.turns)) c.pass.ensures)
+    so.passes.stands here _ c.follow_packet.result c.follow_packet.new.state c.finish_whole_packet.new.self c.go.meter
+    c.follow_packet.new.meter c.go.walk.left _ _ so.left so.ends (omega (arith, c.go-test.true, so.same))
+    (c.finish_whole_packet.ensures ∙ rw c.in-Ended.is refl) (rw step c.follow_packet.ensures.follows)
+    (rw step (omega (arith, c.follow_packet.ensures.turns))) c.pass.ensures (rw c.in-Ended.is refl))
 
 pub returns-clause-none : goal.returns-clause-none
 returns-clause-none g c = λ _. omega (arith, c.go.invariant.ends.most, c.go.invariant.same, c.go-test.false)

@@ -4,10 +4,11 @@ use Rattle.cbpf_code.specs.declared.checker.TheConstants.{MAX_INSTRUCTIONS}
 use Rattle.cbpf_machine.specs.Core.{registers}
 use Rattle.cbpf_machine.specs.Follow.{is_watched}
 use Rattle.cbpf_machine.specs.OnPacket.{in_task, trace_in}
+use Rattle.cbpf_machine.specs.Task.{outcome_in}
 use Rattle.cbpf_machine.specs.Together.{Reaches}
 use Rattle.cbpf_machine.proofs.SoundLemmas.{sound_few}
 use Rattle.cbpf_machine.proofs.TraceLemmas.{goes_from_entry}
-use Rattle.cbpf_machine.proofs.FollowLemmas.{Comes, comes, few_entries, unpaused_next, ended}
+use Rattle.cbpf_machine.proofs.FollowLemmas.{Comes, comes, few_entries, unpaused_next, ended, paused_by}
 use Rattle.cbpf_machine.proofs.FollowLemmas.{reaches_fenced, reaches_within}
 use Rattle.cbpf_machine.proofs.KeptLemmas.{ignores_fewer}
 use Rattle.cbpf_machine.proofs.trail.Trail.follow.Given.{Over}
@@ -56,16 +57,16 @@ add-requires g c =
 
 pub returns-in-Some : goal.returns-in-Some
 returns-in-Some g c =
-    let end = ended (g.Self.Trail.kept c.follow.self) c.args.s.now
+    let end = ended {k = g.Self.Trail.kept c.args.self.now} (g.Self.Trail.kept c.follow.self) c.args.s.now
     (rw c.in-Some.is at (reached g (goal.at.returns-in-Some g c).After-make_turns-turns).0)
     c.follow.invariant.unpaused c.follow.invariant.from_one (c.make_turns-turns.ensures.some refl)
-    c.from.ensures in
+    (omega (arith, c.follow.invariant.kept)) c.from.ensures in
     record {
       follows = rw c.follow.invariant.state end.0;
       stands = λ n e. absurd cc;
       of_trace = c.follow.invariant.stands;
       more = omega (arith, c.follow.invariant.kept);
-      turns = omega (arith, end.1, c.follow.invariant.spent, c.follow.invariant.kept);
+      turns = omega (arith, end.1, end.2, c.follow.invariant.spent, c.follow.invariant.kept);
     }
 
 pub keep-requires-clause-near : goal.keep-requires-clause-near
@@ -111,19 +112,21 @@ returns-then-pauses_at g c =
     let all : g.Self.Trail.kept c.follow.self + c.make_turns-turns.result.0
     ≡ g.Self.Trail.kept c.args.self.now + (c.follow.made + c.make_turns-turns.result.0) =
     omega (arith, c.follow.invariant.kept) in
+    let first = paused_by (is_watched c.args.watched.now) _ (g.Self.Trail.kept c.args.self.now)
+    (c.follow.made + c.make_turns-turns.result.0) _ (record {
+      some = omega (arith, some);
+      unpaused = rw (← all) on.unpaused;
+      at = rw (← all) on.at;
+      here = rw c.of-state.ensures at (sym c.pauses_at.ensures ∙ c.if-pauses_at.true);
+    }) (outcome_in c.args.task.now) c.args.s.now in
     record {
-      follows = rw c.of-state.ensures (
-        omega (arith, some),
-        rw (← all) on.unpaused,
-        rw (← all) on.at,
-        rw c.of-state.ensures at (sym c.pauses_at.ensures ∙ c.if-pauses_at.true),
-      );
+      follows = rw c.of-state.ensures first.0;
       stands = λ n e.
           let same : c.follow.made + c.make_turns-turns.result.0 ≡ n = cc in
           rw (← same) (rw all at kept.0);
       of_trace = rw (← kept.1) at kept.0;
       more = omega (arith, kept.1, c.follow.invariant.kept);
-      turns = omega (arith, c.add.ensures, c.follow.invariant.spent);
+      turns = omega (arith, c.add.ensures, c.follow.invariant.spent, first.1);
     }
 
 pub follow-smaller : goal.follow-smaller

@@ -1,6 +1,7 @@
 use Rattle.std.proofs.Common.{◌≡◌, ◌≤◌, ◌+◌, ◌-◌, length, take}
 use Rattle.cbpf_machine.specs.Core.{registers}
-use Rattle.cbpf_machine.specs.Follow.{Unpaused, is_watched}
+use Rattle.cbpf_machine.specs.Follow.{is_watched}
+use Rattle.cbpf_machine.specs.Together.{Unpaused}
 use Rattle.cbpf_machine.specs.OnPacket.{IsOnTrace, in_task, trace_in}
 use Rattle.cbpf_machine.proofs.trail.Trail.follow.Given as goal
 
