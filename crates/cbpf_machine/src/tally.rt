@@ -12,7 +12,7 @@ ghost use Rattle.cbpf_machine.specs.Ways.{executed_in, last_test, runs_at, taken
 
 use crate::meter::Meter;
 use crate::task::Task;
-use crate::way::{Walk, Way};
+use crate::way::{OnWay, Way};
 use cbpf_code::{Program, SLOTS};
 use std::alloc::{AllocError, Allocator, Global};
 use std::marker::Model;
@@ -44,7 +44,7 @@ fn count_turns<A: Allocator>(task: &Task<'_, A>, runs: &mut [Runs]) -> (u32, Way
         × ((runs_at runs.new i).taken ≤ (runs_at runs.old i).taken + 1) }
 {
     let _few = task.program.len();
-    let mut walk = Walk::new();
+    let mut walk = OnWay::new();
     let mut slots = [0; SLOTS];
     'turns: loop {
         let pc = walk.pc();
