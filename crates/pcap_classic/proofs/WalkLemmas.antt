@@ -3,7 +3,7 @@ use Rattle.std.proofs.Common.{◌≡◌, ℕ, zero, suc, ◌+◌, ◌-◌, ◌<�
 use Rattle.std.proofs.lemmas.Grind.{common_steps}
 use Rattle.std.specs.Prelude.{Some, None, slice_get}
 use Rattle.pcap_classic.specs.declared.captured.{Endianness.Endianness, TheConstants.RECORD_HEADER}
-use Rattle.pcap_classic.specs.Index.{IsWalk}
+use Rattle.pcap_classic.specs.Index.{AreRecordsFrom}
 use Rattle.pcap_classic.specs.Records.{Record}
 use Rattle.pcap_classic.specs.Contents.{contents}
 use Rattle.pcap_classic.proofs.ReachLemmas.{after}
@@ -36,15 +36,15 @@ pub left_of : {X : Type 0} (xs : List X) (from end : ℕ) → 1 ≤ from
     ≡ drop (from - 1) (take (end - 1) xs)
 left_of xs from end one = grind (arith, common_steps)
 
--- past its first record a walk is one again
+-- past the first record there are the records from the next number on
 pub record Goes (order : Endianness) (file : List ℕ) (number end : ℕ) (r : Record) : Type 0 where
   pub left : drop (number - 1) (take (end - 1) (contents order file).records)
       ≡ r ∷ drop (number + 1 - 1) (take (end - 1) (contents order file).records)
-  pub walk : IsWalk order file (r.start + RECORD_HEADER + length r.bytes) (number + 1) end
+  pub walk : AreRecordsFrom order file (r.start + RECORD_HEADER + length r.bytes) (number + 1) end
   pub inside : r.start + RECORD_HEADER + length r.bytes ≤ length file
 
 pub goes : (order : Endianness) (file : List ℕ) (place number end : ℕ) (r : Record)
-    → IsWalk order file place number end
+    → AreRecordsFrom order file place number end
     → slice_get (drop (number - 1) (take (end - 1) (contents order file).records)) 0 ≡ Some r
     → Goes order file number end r
 goes order file place number end r walk first =

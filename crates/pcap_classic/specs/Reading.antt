@@ -24,7 +24,7 @@ NeedsRoom (next ∷ rest) how = ROOM < RECORD_HEADER + length next.bytes
 NeedsRoom [] how = (place : ℕ) × (how ≡ CutData place)
 
 -- where this was left of a capture: its first record is lent, and the rest is left; or it has no record, and its ending
--- is known; or it is left as it was
+-- is known; or it is left as it was, out of memory only where the next record needs room
 abbrev pub Gives : Savefile → Result (Option Captured) ReadFault → Reading → Type 0
 Gives s (Ok (Some item)) new = (rest : Savefile) × (new.left ≡ Some rest)
     × (s ≡ record rest { records = record_of item ∷ rest.records })
@@ -32,8 +32,8 @@ Gives s (Ok None) new = (s.records ≡ []) × (new.ended ≡ Some s.ending) × (
 Gives s (Err (Read e)) new = new.left ≡ Some s
 Gives s (Err Memory) new = (new.left ≡ Some s) × NeedsRoom s.records s.ending
 
--- whatever the reader's bytes are: a record has the number after that of the last one, which is below 2^60, and there
--- is an ending exactly where there was no record
+-- whatever the reader's bytes are: a record has the next number, which is below 2^60; after `None` and after an `Err`
+-- the count stays; and an ending is known exactly after `None`
 abbrev pub Proceeds : ℕ → Result (Option Captured) ReadFault → Reading → Type 0
 Proceeds before (Ok (Some item)) new = (item.number ≡ before + 1) × (new.count ≡ before + 1) × (new.count < 2 ^ 60)
     × (new.ended ≡ None)

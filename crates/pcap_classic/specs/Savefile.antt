@@ -26,15 +26,16 @@ HasMagic order nanos file = number_at order 0 4 file ≡ (if nanos then nanos_ma
 abbrev pub HasVersion : Endianness → List ℕ → Type 0
 HasVersion order file = (number_at order 4 2 file ≡ 2) × (number_at order 6 2 file ≡ 4)
 
--- a capture: whether fractions of a second are nanoseconds, the link type, the whole records in order, and how the
--- file ends after them
+-- what a file holds, which the other crates call a capture: whether fractions of a second are nanoseconds, the link
+-- type, the whole records in order, and how the file ends after them
 pub record Savefile : Type 0 where
   pub nanos : Bool
   pub link : ℕ
   pub records : List Record
   pub ending : Ending
 
--- a file holds a capture: a header of 24 bytes, whose last number is the link type, and the records after it
+-- a file holds a capture, where `file` are its bytes and `c` is what they hold: a header of 24 bytes, whose last number
+-- is the link type, and the records after it
 pub record IsSavefile (file : List ℕ) (c : Savefile) : Type 0 where
   pub order : Endianness
   pub long : FILE_HEADER ≤ length file

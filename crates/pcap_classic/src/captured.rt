@@ -21,7 +21,8 @@ pub struct Captured<'a> {
     pub seconds: u32,
     /// The time stamp's microseconds or nanoseconds, as they stand in the file.
     pub fraction: u32,
-    /// The length that the packet had, in bytes. It may be less than what was captured.
+    /// The length that the packet had, in bytes. It is mostly at least what was captured, but nobody checks the file,
+    /// so it may also be less.
     pub wire: u32,
     /// The bytes that were captured.
     pub bytes: &'a [u8],

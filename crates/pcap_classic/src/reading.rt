@@ -9,7 +9,7 @@ use std::{fmt, io};
 pub enum ReadFault {
     /// A read failed, also by `Interrupted`; or 18446744073709551615 bytes were read, by `FileTooLarge`.
     Read(io::Error),
-    /// Out of memory: for the first 128 kB, or for a record that is longer.
+    /// Out of memory: for the first 128 kB, for a record that is longer, or for one that is cut in its data.
     Memory,
 }
 

@@ -25,7 +25,7 @@ pub struct Records<'a> {
 
 impl<'a> Model for Records<'a> {
     ghost use Rattle.std.specs.Prelude.{List, ◌-◌, take, drop};
-    ghost use Rattle.pcap_classic.specs.Index.{IsWalk};
+    ghost use Rattle.pcap_classic.specs.Index.{AreRecordsFrom};
     ghost use Rattle.pcap_classic.specs.Records.{Record};
     ghost use Rattle.pcap_classic.specs.Contents.{contents};
 
@@ -33,7 +33,7 @@ impl<'a> Model for Records<'a> {
 
     ghost view = { λ w. drop (w.number - 1) (take (w.end - 1) (contents w.order w.file.now).records) };
 
-    ghost invariant = { λ w. IsWalk w.order w.file.now w.place w.number w.end };
+    ghost invariant = { λ w. AreRecordsFrom w.order w.file.now w.place w.number w.end };
 }
 
 impl<'a> Records<'a> {
