@@ -29,7 +29,7 @@ use Rattle.cbpf_dbg.specs.Joined.{Entry, entries_from, packet_entries, joined_fr
 use Rattle.cbpf_dbg.specs.View.{View, start}
 use Rattle.cbpf_dbg.specs.Commands.{Answer, reply_of, view_after, run, run_in, run_to, run_out, within_limit, stopped}
 use Rattle.cbpf_dbg.specs.Commands.{finished, limited, step, step_in, step_to, entry_in, back_place, back_at, steps_of, last_place, run_to_end}
-use Rattle.cbpf_dbg.specs.Here.{stop_of, entry_of, stop_here, CanReturn, StopsHere, IsHere}
+use Rattle.cbpf_dbg.specs.Here.{stop_of, entry_of, stop_here, CanReturn, RunStopsHere, StepStopsHere}
 use Rattle.cbpf_dbg.proofs.JoinedLemmas.{entry}
 use Rattle.cbpf_dbg.proofs.ResumeLemmas.{taken}
 use Rattle.cbpf_dbg.proofs.ShownStops.{All-slice_get}
@@ -142,39 +142,39 @@ module _ (machine : Machine) (c : Savefile) (v : View) (h : HasLoaded machine c 
   returns-rest breakpoints place same =
       subst (λ (b : Breakpoints). All (CanReturn v) (stops_after machine c.records b place)) same (rest-returns place)
 
-  out-at : (n : ℕ) (b : Bool) → OfAnswer StopsHere (Ok (cond b (limited v machine c.records n) (finished v machine c.records)))
+  out-at : (n : ℕ) (b : Bool) → OfAnswer RunStopsHere (Ok (cond b (limited v machine c.records n) (finished v machine c.records)))
   out-at n true = tt
   out-at n false = tt
 
-  out-returns : (limit : Option ℕ) → OfAnswer StopsHere (Ok (run_out v machine c.records limit))
+  out-returns : (limit : Option ℕ) → OfAnswer RunStopsHere (Ok (run_out v machine c.records limit))
   out-returns None = tt
   out-returns (Some n) = out-at (v.place.packet + n) (nat_le (v.place.packet + n) (length c.records))
 
   stop-returns : (limit : Option ℕ) (stop : Stop) (b : Bool) → CanReturn v stop
-      → OfAnswer StopsHere (Ok (cond b (stopped v stop) (run_out v machine c.records limit)))
+      → OfAnswer RunStopsHere (Ok (cond b (stopped v stop) (run_out v machine c.records limit)))
   stop-returns limit stop true can = (record { resumable = can.resumable; here_is = can.here_is }, can.here_is)
   stop-returns limit stop false can = out-returns limit
 
   to-returns : (limit : Option ℕ) (hits : List Stop) → All (CanReturn v) hits
-      → OfAnswer StopsHere (Ok (run_to v machine c.records limit hits))
+      → OfAnswer RunStopsHere (Ok (run_to v machine c.records limit hits))
   to-returns limit [] all = out-returns limit
   to-returns limit (stop ∷ hits) all =
       stop-returns limit stop (within_limit limit (stop.place.packet - v.place.packet))
       (All-head (CanReturn v) stop hits all)
 
-  in-returns : (limit : Option ℕ) → OfAnswer StopsHere (run_in v machine c.records limit)
+  in-returns : (limit : Option ℕ) → OfAnswer RunStopsHere (run_in v machine c.records limit)
   in-returns None = to-returns None _ (rest-returns v.place)
   in-returns (Some zero) = tt
   in-returns (Some (suc n)) = to-returns (Some (suc n)) _ (rest-returns v.place)
 
   -- what a run answers
-  pub run-returns : (limit : Option ℕ) → OfAnswer StopsHere (run v limit)
+  pub run-returns : (limit : Option ℕ) → OfAnswer RunStopsHere (run v limit)
   run-returns limit =
       let ran : run v limit ≡ run_in v machine c.records limit = rw (h.program, h.values, h.capture) refl in
-      subst (OfAnswer StopsHere) (sym ran) (in-returns limit)
+      subst (OfAnswer RunStopsHere) (sym ran) (in-returns limit)
 
   on-here : (o : Option Entry) → ((e : Entry) → o ≡ Some e → IsThere machine c.records e)
-      → OfAnswer IsHere (Ok (step_to v machine c.records o))
+      → OfAnswer StepStopsHere (Ok (step_to v machine c.records o))
   on-here None there = tt
   on-here (Some e) there = ((stop_of v.breakpoints e).why, here-there e (there e refl))
 
@@ -189,7 +189,7 @@ module _ (machine : Machine) (c : Savefile) (v : View) (h : HasLoaded machine c 
   place-in place (Some r) e is = place-of place r (entry_at (trace machine r.bytes r.wire) place.step) e is
 
   back-at : (place : Place) (o : Option Entry) → 0 < place.step
-      → entry_in machine (slice_get c.records (place.packet - 1)) place ≡ o → OfAnswer IsHere (back_at v o)
+      → entry_in machine (slice_get c.records (place.packet - 1)) place ≡ o → OfAnswer StepStopsHere (back_at v o)
   back-at place None begun is = tt
   back-at place (Some e) begun is =
       let at = place-in place (slice_get c.records (place.packet - 1)) e is in
@@ -200,12 +200,12 @@ module _ (machine : Machine) (c : Savefile) (v : View) (h : HasLoaded machine c 
         here-entry machine c (record v { place = e.place }) (moved machine c v e.place h) v.breakpoints e refl there,
       )
 
-  back-here : (b : ℕ) (within : Bool) → nat_lt b v.place.step ≡ within → OfAnswer IsHere (back_at v
+  back-here : (b : ℕ) (within : Bool) → nat_lt b v.place.step ≡ within → OfAnswer StepStopsHere (back_at v
       (cond within (entry_in machine (slice_get c.records (v.place.packet - 1)) (back_place v.place b)) None))
   back-here b true within = back-at (back_place v.place b) _ (grind (arith, nat_tests)) refl
   back-here b false within = tt
 
-  in-here : (n : ℤ) (none : Bool) → OfAnswer IsHere (cond none (Err NoPackets) (step_in v machine c.records n))
+  in-here : (n : ℤ) (none : Bool) → OfAnswer StepStopsHere (cond none (Err NoPackets) (step_in v machine c.records n))
   in-here n true = tt
   in-here (pos zero) false = tt
   in-here (pos (suc n)) false = on-here (slice_get (entries_after machine c.records v.place) n)
@@ -214,11 +214,11 @@ module _ (machine : Machine) (c : Savefile) (v : View) (h : HasLoaded machine c 
   in-here (negsuc n) false = back-here (n + 1) (nat_lt (n + 1) v.place.step) refl
 
   -- what a step answers
-  pub step-here : (n : ℤ) → OfAnswer IsHere (step v n)
+  pub step-here : (n : ℤ) → OfAnswer StepStopsHere (step v n)
   step-here n =
       let stepped : step v n ≡ cond (length c.records == 0) (Err NoPackets) (step_in v machine c.records n) =
       rw (h.program, h.values, h.capture) refl in
-      subst (OfAnswer IsHere) (sym stepped) (in-here n (length c.records == 0))
+      subst (OfAnswer StepStopsHere) (sym stepped) (in-here n (length c.records == 0))
 
 -- what is known of a cursor at an entry
 pub record IsAtEntry (machine : Machine) (capture : List Record) (w : Cursor) : Type 0 where

@@ -14,7 +14,7 @@ use Rattle.cbpf_reply.specs.declared.reply.Why.TheVariants as why
 use Rattle.cbpf_reply.specs.Places.{is_before}
 use Rattle.cbpf_dbg.specs.Joined.{Entry, entries_from, packet_entries, joined_from, joined, entries_after, is_hit, stop_at}
 use Rattle.cbpf_dbg.specs.Joined.{stops_of}
-use Rattle.cbpf_dbg.specs.Laws.{Rises, EntriesRise, HitsRise, RestRises}
+use Rattle.cbpf_dbg.specs.Laws.{Rises, EntriesRise, StopsRise, RestRises}
 use Rattle.cbpf_dbg.specs.Breakpoints.{Breakpoints}
 use Rattle.cbpf_dbg.proofs.JoinedLemmas.{entry}
 
@@ -101,8 +101,8 @@ rise-hits : (breakpoints : Breakpoints) (es : List Entry) → Rises (λ (e : Ent
 rise-hits breakpoints es h =
     rise-stops (filter (is_hit breakpoints) es) (rise-filter (λ (e : Entry). e.place) (is_hit breakpoints) es h)
 
-pub hits_rise : HitsRise
-hits_rise machine capture breakpoints = rise-hits breakpoints (joined machine capture) (entries_rise machine capture)
+pub stops_rise : StopsRise
+stops_rise machine capture breakpoints = rise-hits breakpoints (joined machine capture) (entries_rise machine capture)
 
 pub rest_rises : RestRises
 rest_rises machine capture breakpoints place =

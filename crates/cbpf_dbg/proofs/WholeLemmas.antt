@@ -129,7 +129,7 @@ module _ (machine : Machine) (c : Savefile) (old v : View) (f g : List Stop) (m 
 
   pub going-found : Found old v f g
   going-found = record {
-    hits = h.passed;
+    first = h.passed;
     after = stops_after machine c.records v.breakpoints v.place;
     before_are = stops-held machine c old h.old_holds ∙ ap Ok h.hits;
     after_are = stops-held machine c v h.new_holds;

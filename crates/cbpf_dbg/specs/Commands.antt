@@ -50,8 +50,9 @@ with_both None capture act = Err fault.NoProgram
 with_both (Some list) None act = Err fault.NoCapture
 with_both (Some list) (Some c) act = act list c
 
-abbrev pub loaded : {R : Type 0} → View → (Machine → List Record → Result R SessionFault) → Result R SessionFault
-loaded m act = with_both m.program m.capture (λ list c. act (machine_of list m.values) c.records)
+-- a command over what is loaded, as the machine and the records; S1 where no program is, else S2 where no capture is
+abbrev pub where_loaded : {R : Type 0} → View → (Machine → List Record → Result R SessionFault) → Result R SessionFault
+where_loaded m act = with_both m.program m.capture (λ list c. act (machine_of list m.values) c.records)
 
 abbrev pub stopped : View → Stop → RunReply × View
 stopped m stop = (Stopped stop, record m { place = stop.place })
@@ -82,8 +83,8 @@ within_limit (Some n) packets = nat_lt packets n
 -- the answer with these stops ahead: the first of them where it is within the limit
 abbrev pub run_to : View → Machine → List Record → Option ℕ → List Stop → RunReply × View
 run_to m machine capture limit [] = run_out m machine capture limit
-run_to m machine capture limit (h ∷ hits) =
-    if within_limit limit (h.place.packet - m.place.packet) then stopped m h else run_out m machine capture limit
+run_to m machine capture limit (stop ∷ rest) =
+    if within_limit limit (stop.place.packet - m.place.packet) then stopped m stop else run_out m machine capture limit
 
 abbrev pub run_in : View → Machine → List Record → Option ℕ → Answer RunReply
 run_in m machine capture (Some zero) = Err fault.ZeroCount
@@ -91,10 +92,11 @@ run_in m machine capture limit = Ok (run_to m machine capture limit (stops_after
 
 -- on to the first stop ahead, or up to a limit of packets, where there is one, or to the end
 abbrev pub run : View → Option ℕ → Answer RunReply
-run m limit = loaded m (λ machine capture. run_in m machine capture limit)
+run m limit = where_loaded m (λ machine capture. run_in m machine capture limit)
 
 -- ---- step
 
+-- a step forward to an entry; where there is none, it finishes
 abbrev pub step_to : View → Machine → List Record → Option Entry → RunReply × View
 step_to m machine capture None = finished m machine capture
 step_to m machine capture (Some e) = stopped m (stop_at why.Step e)
@@ -124,10 +126,11 @@ step_in m machine capture (pos zero) = Err fault.ZeroCount
 step_in m machine capture (pos (suc n)) = Ok (step_to m machine capture (slice_get (entries_after machine capture m.place) n))
 step_in m machine capture (negsuc n) = back_by m machine capture (n + 1)
 
--- n entries forward, or back where n is negative
+-- n entries forward, past the ends of packets; where fewer are ahead it finishes, as a run does; or -n entries back in
+-- the packet where n is negative
 abbrev pub step : View → ℤ → Answer RunReply
 step m n =
-    loaded m (λ machine capture. if length capture == 0 then Err fault.NoPackets else step_in m machine capture n)
+    where_loaded m (λ machine capture. if length capture == 0 then Err fault.NoPackets else step_in m machine capture n)
 
 -- ---- the place
 
@@ -140,12 +143,12 @@ has_packet capture n = nat_lt 0 n && nat_le n (length capture)
 -- to the place before packet n, from which on it then counts
 abbrev pub select : View → ℕ → Answer (Unit {0})
 select m n =
-    loaded m (λ machine capture. if length capture == 0 then Err fault.NoPackets
+    where_loaded m (λ machine capture. if length capture == 0 then Err fault.NoPackets
     else (if has_packet capture n then Ok (moved m (record { packet = n; step = 0 })) else Err fault.NoPacket))
 
 -- the place where it stands
 abbrev pub mark : View → Result Place SessionFault
-mark m = loaded m (λ machine capture. Ok m.place)
+mark m = where_loaded m (λ machine capture. Ok m.place)
 
 -- how many steps a packet has
 abbrev pub steps_of : Machine → Option Record → ℕ
@@ -160,7 +163,7 @@ resume_in m machine capture place =
 -- to a place whose packet has its step; from this packet on it then counts
 abbrev pub resume : View → Place → Answer (Unit {0})
 resume m place =
-    loaded m (λ machine capture. if length capture == 0 then Err fault.NoPackets
+    where_loaded m (λ machine capture. if length capture == 0 then Err fault.NoPackets
     else (if has_packet capture place.packet then resume_in m machine capture place else Err fault.NoPacket))
 
 -- a place that `resume` takes wherever this program, these values and this capture are loaded, but for a capture
@@ -173,14 +176,15 @@ IsResumable m place = (n : View) → n.program ≡ m.program → n.values ≡ m.
 
 -- the stops ahead
 abbrev pub stops : View → Result (List Stop) SessionFault
-stops m = loaded m (λ machine capture. Ok (stops_after machine capture m.breakpoints m.place))
+stops m = where_loaded m (λ machine capture. Ok (stops_after machine capture m.breakpoints m.place))
 
--- how a run's answer fits the stops ahead before it and after it: a stop is the first of them, and the others stay;
--- up to a limit there is none; and at the end there is none left
-abbrev pub AgreesWithHits : RunReply → List Stop → List Stop → Type 0
-AgreesWithHits (Stopped h) before after = before ≡ h ∷ after
-AgreesWithHits (Limit n) before after = before ≡ after
-AgreesWithHits (Finished n) before after = before ≡ []
+-- how a run's answer fits the stops ahead before it and after it: a stop is the first of those before, and the others
+-- are those after; up to a limit none was passed, so both are the same; where the run finished none was ahead before,
+-- and of `after`, which has those from the start again, nothing is said
+abbrev pub AgreesWithStops : RunReply → List Stop → List Stop → Type 0
+AgreesWithStops (Stopped stop) before after = before ≡ stop ∷ after
+AgreesWithStops (Limit n) before after = before ≡ after
+AgreesWithStops (Finished n) before after = before ≡ []
 
 -- the same by the views
 pub record Continues (old new : View) (reply : RunReply) : Type 0 where
@@ -188,33 +192,33 @@ pub record Continues (old new : View) (reply : RunReply) : Type 0 where
   pub after : List Stop
   pub before_are : stops old ≡ Ok before
   pub after_are : stops new ≡ Ok after
-  pub passes : AgreesWithHits reply before after
+  pub passes : AgreesWithStops reply before after
 
 -- ---- whole runs
 
 -- runs without a limit, until one finishes: the counts that the last of them answers, and back to the start
 abbrev pub run_to_end : View → Answer Counts
-run_to_end m = loaded m (λ machine capture.
+run_to_end m = where_loaded m (λ machine capture.
     Ok (counts machine capture m.origin (length capture + 1), record m { place = start; origin = 1 }))
 
 -- all stops, from the start
 abbrev pub all_stops : View → Result (List Stop) SessionFault
-all_stops m = loaded m (λ machine capture. Ok (stops_in machine capture m.breakpoints))
+all_stops m = where_loaded m (λ machine capture. Ok (stops_in machine capture m.breakpoints))
 
--- the place of the last of some stops; with none, a place before them
+-- the place of the last of some stops; with none, the place that is given
 abbrev pub last_place : Place → List Stop → Place
 last_place place [] = place
-last_place place (h ∷ hits) = last_place h.place hits
+last_place place (stop ∷ rest) = last_place stop.place rest
 
 -- the stops found are the first of those that were ahead, the others are still ahead,
 -- and only the place differs: it is the last one's
 pub record Found (old new : View) (old_found new_found : List Stop) : Type 0 where
-  pub hits : List Stop
+  pub first : List Stop
   pub after : List Stop
-  pub before_are : stops old ≡ Ok (hits ++ after)
+  pub before_are : stops old ≡ Ok (first ++ after)
   pub after_are : stops new ≡ Ok after
-  pub found_are : new_found ≡ old_found ++ hits
-  pub moves : new ≡ record old { place = last_place old.place hits }
+  pub found_are : new_found ≡ old_found ++ first
+  pub moves : new ≡ record old { place = last_place old.place first }
 
 -- ---- what is loaded and set
 
@@ -234,7 +238,7 @@ with_value_set m e n = record m {
 
 -- S9 where the extension takes no value
 abbrev pub set_value : View → Ext → ℕ → Answer (Unit {0})
-set_value m e n = if takes_value e then Ok (tt, with_value_set m e n) else Err fault.NoValue
+set_value m e n = if takes_value e then Ok (tt, with_value_set m e n) else Err fault.TakesNoValue
 
 -- the answer where n is an instruction of the program, else S1 or S4
 abbrev pub at_instruction : {R : Type 0} → Option (List Insn) → ℕ → Result R SessionFault → Result R SessionFault
@@ -270,11 +274,11 @@ turns_in m machine capture (_, after) = turns_between machine capture m.place af
 -- it ends; 0 after a refusal
 abbrev pub turns_forward : View → Answer RunReply → ℕ
 turns_forward m answer =
-    result_unwrap_or (loaded m (λ machine capture. result_map_both (turns_in m machine capture) (λ e. e) answer)) 0
+    result_unwrap_or (where_loaded m (λ machine capture. result_map_both (turns_in m machine capture) (λ e. e) answer)) 0
 
 -- how many turns lead to the end; 0 where no program or no capture is loaded
 abbrev pub turns_left : View → ℕ
-turns_left m = result_unwrap_or (loaded m (λ machine capture. Ok (turns_to_end machine capture m.place))) 0
+turns_left m = result_unwrap_or (where_loaded m (λ machine capture. Ok (turns_to_end machine capture m.place))) 0
 
 -- how many turns a place takes: those from the packet's start to its step, once to see that the step exists and once to
 -- fill the trail; of the refusals only the one that counts the packet's steps makes turns, one for each

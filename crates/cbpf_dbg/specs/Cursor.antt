@@ -173,7 +173,7 @@ pub record StepsBack (machine : Machine) (capture : List Record) (old new : Curs
   pub place_is : new.place ≡ back_place old.place b
   pub origin_is : new.origin ≡ old.origin
 
--- there are too few entries after
+-- the packet has too few entries before the place; this is the most that fits
 pub record CannotStepBack (old new : Cursor) (b most : ℕ) : Type 0 where
   pub beyond : old.place.step ≤ b
   pub most_is : most ≡ old.place.step - 1

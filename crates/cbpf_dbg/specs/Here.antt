@@ -15,7 +15,7 @@ use Rattle.cbpf_reply.specs.declared.reply.Stop.{Stop}
 use Rattle.cbpf_reply.specs.declared.reply.Why.{Why}
 use Rattle.cbpf_reply.specs.declared.reply.Why.TheVariants as why
 use Rattle.cbpf_dbg.specs.Breakpoints.{Breakpoints}
-use Rattle.cbpf_dbg.specs.Commands.{IsResumable, entry_in, loaded}
+use Rattle.cbpf_dbg.specs.Commands.{IsResumable, entry_in, where_loaded}
 use Rattle.cbpf_dbg.specs.Joined.{Entry, is_hit, stop_at}
 use Rattle.cbpf_dbg.specs.View.{View}
 
@@ -31,7 +31,7 @@ entry_of machine capture place =
 -- the stop at the place
 abbrev pub stop_here : View → Option Stop
 stop_here m = result_unwrap_or
-    (loaded m (λ machine capture. Ok (option_map (stop_of m.breakpoints) (entry_of machine capture m.place)))) None
+    (where_loaded m (λ machine capture. Ok (option_map (stop_of m.breakpoints) (entry_of machine capture m.place)))) None
 
 -- `resume` takes the stop's place, and this stop is there
 pub record CanReturn (m : View) (stop : Stop) : Type 0 where
@@ -39,14 +39,14 @@ pub record CanReturn (m : View) (stop : Stop) : Type 0 where
   pub here_is : stop_here (record m { place = stop.place }) ≡ Some stop
 
 -- the stop that an answer of `run` has, if it has one, is the one at the place, and can be gone back to
-abbrev pub StopsHere : View → RunReply → Type 0
-StopsHere m (Stopped stop) = CanReturn m stop × (stop_here m ≡ Some stop)
-StopsHere m _ = Unit {0}
+abbrev pub RunStopsHere : View → RunReply → Type 0
+RunStopsHere m (Stopped stop) = CanReturn m stop × (stop_here m ≡ Some stop)
+RunStopsHere m _ = Unit {0}
 
--- the stop that an answer of `step` has, if it has one, is the one at the place, whatever the reason
-abbrev pub IsHere : View → RunReply → Type 0
-IsHere m (Stopped stop) = (reason : Why) × (stop_here m ≡ Some (record stop { why = reason }))
-IsHere m _ = Unit {0}
+-- the stop that an answer of `step` has, if it has one, is the one at the place, which may have another reason
+abbrev pub StepStopsHere : View → RunReply → Type 0
+StepStopsHere m (Stopped stop) = (reason : Why) × (stop_here m ≡ Some (record stop { why = reason }))
+StepStopsHere m _ = Unit {0}
 
 -- a trail stands for the entries of the place's packet, up to the place
 abbrev pub KeepsEntries : (List Registers → Type 0) → View → Type 0

@@ -62,6 +62,7 @@ is_hit breakpoints e = carries breakpoints e.state || asks e.turn
 abbrev pub why_of : Why → Turn → Why
 why_of reason t = option_map_or why.Unknown (asked t) reason
 
+-- the stop of an entry, with this reason, or with the unknown extension
 abbrev pub stop_at : Why → Entry → Stop
 stop_at reason e = record { place = e.place; state = e.state; why = why_of reason e.turn }
 
@@ -88,7 +89,7 @@ counts machine capture from to =
     let all = outcomes machine capture from to in
     record { passes = count_by is_pass all; fails = count_by is_fail all; unknown = count_by is_unknown all }
 
--- the place before another: the entries after it are those from the other one on. At step 0 it is the place itself
+-- the place one step earlier, so that the entries after it are those from the place on; at step 0 the place itself
 abbrev pub place_before : Place → Place
 place_before place = record { packet = place.packet; step = place.step - 1 }
 

@@ -17,9 +17,9 @@ Rises at (x ∷ xs) = All (λ y. is_before (at x) (at y) ≡ true) xs × Rises a
 abbrev pub EntriesRise : Type 0
 EntriesRise = (machine : Machine) (capture : List Record) → Rises (λ e. e.place) (joined machine capture)
 
--- so do all hits, and the hits after a place
-abbrev pub HitsRise : Type 0
-HitsRise = (machine : Machine) (capture : List Record) (breakpoints : Breakpoints)
+-- so do the stops of a capture, and those after a place
+abbrev pub StopsRise : Type 0
+StopsRise = (machine : Machine) (capture : List Record) (breakpoints : Breakpoints)
     → Rises (λ h. h.place) (stops_in machine capture breakpoints)
 
 abbrev pub RestRises : Type 0

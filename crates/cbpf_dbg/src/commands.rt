@@ -1,7 +1,7 @@
 //! The commands of a session that ask or move its place.
 
 ghost use Rattle.std.specs.Prelude.{◌≡◌, ◌≤◌, ◌<◌, ◌+◌, length, ◌*◌, ◌^◌, ◌<ℤ◌, pos, IfErr, IfOk, IfSome, OnErr, OnOk};
-ghost use Rattle.cbpf_dbg.specs.Here.{CanReturn, IsHere, StopsHere, stop_here};
+ghost use Rattle.cbpf_dbg.specs.Here.{CanReturn, RunStopsHere, StepStopsHere, stop_here};
 ghost use Rattle.cbpf_dbg.specs.Shown.{CanShow, Shows};
 ghost use Rattle.std.specs.List.{All};
 ghost use Rattle.cbpf_code.specs.Writing.{Wrote};
@@ -89,7 +89,8 @@ impl<T: Trail, A: Allocator> Session<T, A> {
     /// Goes on to the next hit, where fewer than `limit` packets are finished before it, else to the
     /// limit or the end.
     ///
-    /// The meter has spent at most 2 to the 127 before; it rises by one for each entry that is left.
+    /// The meter has spent at most 2 to the 127 before; it rises by one for each entry that is passed, from the
+    /// place's own on.
     ///
     /// # Errors
     ///
@@ -101,14 +102,14 @@ impl<T: Trail, A: Allocator> Session<T, A> {
         ensures after { self.new ≡ spec.view_after self.old (spec.run self.old limit) }
         ensures turns { meter.new ≡ meter.old + spec.turns_forward self.old (spec.run self.old limit) }
 
-        // A stop is the first hit ahead; the rest stay ahead.
+        // A stop is the first of those ahead; the rest stay ahead.
         ensures ahead { IfOk result (λ reply. spec.Continues self.old self.new reply) }
 
         // A stop is one that `write_stop` takes.
         ensures shown { IfOk result (λ reply. Shows self.new reply) }
 
         // The session is at its stop, and can come back to it.
-        ensures returns { IfOk result (λ reply. StopsHere self.new reply) }
+        ensures returns { IfOk result (λ reply. RunStopsHere self.new reply) }
     {
         let loaded = loaded_in!(self);
         if let Some(0) = limit {
@@ -135,7 +136,7 @@ impl<T: Trail, A: Allocator> Session<T, A> {
         ensures turns { meter.new ≡ meter.old + spec.turns_to_resume place.step result }
         ensures few { meter.new ≤ meter.old + 2 * place.step }
 
-        // Also where it refuses the place.
+        // A stop to which it could go back before, it can go back to afterwards, also where it refuses the place.
         ensures others { (stop : AStop) → CanReturn self.old stop → CanReturn self.new stop }
     {
         let loaded = loaded_in!(self);
@@ -153,11 +154,12 @@ impl<T: Trail, A: Allocator> Session<T, A> {
         }
     }
 
-    /// Goes on by `n` entries, or back by `-n` entries of the same packet, whatever hits lie between.
+    /// Goes on by `n` entries, past the ends of packets, or back by `-n` entries of the same packet, whatever hits lie
+    /// between. Where fewer than `n` entries are ahead, it finishes, as [`Session::run`] does.
     ///
-    /// The meter has spent at most 2 to the 127 before; on the way forward it rises by one for each entry that is left,
-    /// and on the way back by what the trail takes to go back to the entry, which is at most its `most_turns_back`. A
-    /// refusal makes no turn.
+    /// The meter has spent at most 2 to the 127 before; on the way forward it rises by one for each entry that is
+    /// passed, from the place's own on, and on the way back by what the trail takes to go back to the entry, which is
+    /// at most its `most_turns_back`. A refusal makes no turn.
     ///
     /// # Errors
     ///
@@ -173,7 +175,7 @@ impl<T: Trail, A: Allocator> Session<T, A> {
         ensures back_turns { n <ℤ pos 0 → OnOk result (meter.new ≡ meter.old + T.turns_back self.new.place.step) }
         ensures refused { OnErr result (meter.new ≡ meter.old) }
         ensures shown { IfOk result (λ reply. Shows self.new reply) }
-        ensures here { IfOk result (λ reply. IsHere self.new reply) }
+        ensures here { IfOk result (λ reply. StepStopsHere self.new reply) }
     {
         let loaded = loaded_in!(self);
         let packets = loaded.capture.count();
@@ -215,7 +217,7 @@ impl<T: Trail, A: Allocator> Session<T, A> {
         Ok(())
     }
 
-    /// The hits after the place, in order. The session stays as it is.
+    /// The stops after the place, in order. The session stays as it is.
     ///
     /// # Errors
     ///

@@ -7,7 +7,7 @@ ghost use Rattle.cbpf_machine.specs.Registers.{Registers};
 ghost use Rattle.cbpf_machine.specs.Follow.{KnowsEach, follow_ahead, is_watched, unpaused_len};
 ghost use Rattle.cbpf_machine.specs.declared.follow.Followed.TheVariants as followed;
 ghost use Rattle.pcap_classic.specs.Records.{StartsAt};
-ghost use Rattle.cbpf_dbg.specs.Commands.{AgreesWithHits};
+ghost use Rattle.cbpf_dbg.specs.Commands.{AgreesWithStops};
 ghost use Rattle.cbpf_dbg.specs.Joined.{stops_after};
 ghost use Rattle.cbpf_dbg.specs.Loaded.{machine_in, records_in, breakpoints_in};
 ghost use Rattle.cbpf_dbg.specs.Session.{IsInside, KeepsTo};
@@ -273,7 +273,7 @@ pub(crate) fn run_to_limit<T: Trail, A: Allocator>(
     ensures runs { Gives (machine_in loaded.now) loaded.now.capture.now (breakpoints_in loaded.now)
         (run_from (machine_in loaded.now) (records_in loaded.now) limit) cursor.old cursor.new result }
     ensures inside { IsInside (records_in loaded.now) cursor.new.place }
-    ensures ahead { AgreesWithHits result
+    ensures ahead { AgreesWithStops result
         (stops_after (machine_in loaded.now) (records_in loaded.now) (breakpoints_in loaded.now) cursor.old.place)
         (stops_after (machine_in loaded.now) (records_in loaded.now) (breakpoints_in loaded.now) cursor.new.place) }
     ensures turns { meter.new ≡ meter.old

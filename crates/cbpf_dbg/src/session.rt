@@ -227,13 +227,13 @@ impl<T: Trail, A: Allocator> Session<T, A> {
     ///
     /// # Errors
     ///
-    /// `NoValue` for an extension that takes none, as [`Values::set`] names them.
+    /// `TakesNoValue` for an extension that takes none, as [`Values::set`] names them.
     pub fn set_value(&mut self, e: Ext, n: u32) -> Result<(), SessionFault>
         ensures reply { result ≡ spec.reply_of (spec.set_value self.old e n) }
         ensures after { self.new ≡ spec.view_after self.old (spec.set_value self.old e n) }
     {
         if !self.values.set(e, n) {
-            return Err(SessionFault::NoValue);
+            return Err(SessionFault::TakesNoValue);
         }
         if let Some(program) = &self.program {
             self.needs_no_value = needs_no_value(program, &self.values);
@@ -265,7 +265,7 @@ impl<T: Trail, A: Allocator> Session<T, A> {
         self.breakpoints.len()
     }
 
-    /// The breakpoint at index `i`, from 0, in order of setting.
+    /// The instruction of the breakpoint at index `i` of the list, from 0, in order of setting.
     pub fn breakpoint_at(&self, i: usize) -> Option<u32>
         ensures { result ≡ option_map (λ b. b.0) (slice_get self.now.breakpoints i) }
     {
@@ -273,7 +273,7 @@ impl<T: Trail, A: Allocator> Session<T, A> {
         Some(*n)
     }
 
-    /// The condition of the breakpoint at index `i`.
+    /// The condition of the breakpoint at index `i` of the list.
     pub fn breakpoint_when_at(&self, i: usize) -> Option<When>
         ensures { result ≡ option_map (λ b. b.1) (slice_get self.now.breakpoints i) }
     {

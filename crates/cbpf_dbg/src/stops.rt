@@ -15,7 +15,7 @@ use cbpf_reply::{Stop, Why};
 use std::alloc::{Allocator, Global};
 use std::marker::Model;
 
-/// The hits after a session's place, in order. Contracts see it as the list of those that are left.
+/// The stops after a session's place, in order. Contracts see it as the list of those that are left.
 ///
 /// It takes no memory, and leaves the session as it is.
 #[derive(Drop)]

@@ -23,7 +23,7 @@ set_head = codes "breakpoint at: "
 abbrev pub set_text : List Insn → ℕ → When → List ℕ
 set_text list n when = set_head ++ line_with_condition list n when
 
--- the breakpoint's instruction, where a program is loaded
+-- the reply, or nothing where no program is loaded
 abbrev pub set_in : Option (List Insn) → ℕ → When → List ℕ
 set_in None n when = []
 set_in (Some list) n when = set_text list n when

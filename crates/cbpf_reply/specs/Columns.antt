@@ -3,7 +3,7 @@
 use Rattle.std.specs.Prelude.{ℕ, ◌-◌, List, [], ◌∷◌, length, codes, decimal}
 use Rattle.cbpf_code.specs.Text.{concat, spaces, hex}
 
--- the pieces of a line: a label with the spaces after it, and what follows
+-- the pieces of a line: a label with the spaces after it, and what follows, also further lines
 abbrev pub labelled : List ℕ → List (List ℕ) → List (List ℕ)
 labelled label pieces = label ∷ spaces (10 - length label) ∷ pieces
 

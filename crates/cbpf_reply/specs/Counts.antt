@@ -27,7 +27,7 @@ known_text passes fails = with_numbers (codes "bpf passes:") passes (codes " fai
 unfoldable pub counts_text : Counts → List ℕ
 counts_text n = known_text n.passes n.fails ++ unknown_text n.unknown
 
--- with the next packet, where a limit was reached
+-- what stands after the counts at a limit: the next packet
 abbrev pub next_text : ℕ → List ℕ
 next_text packet = with_number (codes " next:") packet (codes "\n")
 

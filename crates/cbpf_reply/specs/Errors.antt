@@ -1,4 +1,4 @@
--- The lines `error: ..`, each once: refusals by their numbers, and out of memory (this project's own).
+-- The lines `error: ..`: refusals by their numbers, and out of memory (this project's own).
 use Rattle.std.specs.Prelude.{ℕ, List, [], ◌∷◌, codes}
 use Rattle.cbpf_code.specs.declared.words.WordFault.{WordFault}
 use Rattle.cbpf_code.specs.declared.checker.CheckFault.{CheckFault}
@@ -12,8 +12,8 @@ use Rattle.cbpf_reply.specs.declared.errors.LoadFault.{LoadFault}
 use Rattle.cbpf_reply.specs.declared.errors.LoadFault.TheVariants as load
 use Rattle.cbpf_reply.specs.declared.reply.SessionFault.{SessionFault}
 use Rattle.cbpf_reply.specs.declared.reply.SessionFault.TheVariants.{NoProgram, NoCapture, NoPackets, NoInstruction}
-use Rattle.cbpf_reply.specs.declared.reply.SessionFault.TheVariants.{NoPacket, NoStep, TooFarBack, ZeroCount, NoValue}
-use Rattle.cbpf_reply.specs.declared.reply.SessionFault.TheVariants.{Memory}
+use Rattle.cbpf_reply.specs.declared.reply.SessionFault.TheVariants.{NoPacket, NoStep, TooFarBack, ZeroCount}
+use Rattle.cbpf_reply.specs.declared.reply.SessionFault.TheVariants.{TakesNoValue, Memory}
 
 -- ---- what faults say
 
@@ -38,7 +38,7 @@ session_message NoPacket = codes "S5 no such packet"
 session_message (NoStep n) = with_number (codes "S6 packet has ") n (codes " steps")
 session_message (TooFarBack n) = with_number (codes "S7 at most ") n (codes " back")
 session_message ZeroCount = codes "S8 count is zero"
-session_message NoValue = codes "S9 no value for this extension"
+session_message TakesNoValue = codes "S9 no value for this extension"
 session_message Memory = out_of_memory
 
 -- ---- the lines of a message
@@ -68,5 +68,5 @@ check_fault_text fault = error_line (check_message fault)
 abbrev pub capture_fault_text : CaptureFault → List ℕ
 capture_fault_text fault = error_line (capture_message fault)
 
-abbrev pub fault_text : SessionFault → List ℕ
-fault_text fault = error_line (session_message fault)
+abbrev pub session_fault_text : SessionFault → List ℕ
+session_fault_text fault = error_line (session_message fault)

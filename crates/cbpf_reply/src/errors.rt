@@ -99,7 +99,7 @@ impl SessionFault {
             SessionFault::NoStep(steps) => Number("S6 packet has ", u64::from(steps), " steps"),
             SessionFault::TooFarBack(most) => Number("S7 at most ", u64::from(most), " back"),
             SessionFault::ZeroCount => Text("S8 count is zero"),
-            SessionFault::NoValue => Text("S9 no value for this extension"),
+            SessionFault::TakesNoValue => Text("S9 no value for this extension"),
             SessionFault::Memory => OUT_OF_MEMORY,
         }
     }
@@ -195,7 +195,7 @@ pub fn write_capture_fault<W: Write>(w: &mut W, fault: CaptureFault) -> Result<(
 
 /// Writes the line of a refusal, with its number, or that it is out of memory.
 pub fn write_session_fault<W: Write>(w: &mut W, fault: SessionFault) -> Result<(), WriteFault>
-    ensures { Wrote (W.contents w.old) (W.contents w.new) result (spec.fault_text fault) }
+    ensures { Wrote (W.contents w.old) (W.contents w.new) result (spec.session_fault_text fault) }
 {
     write_error_line(w, fault.message())
 }

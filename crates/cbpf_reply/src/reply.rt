@@ -53,9 +53,10 @@ pub struct Counts {
 pub enum RunReply {
     /// It stopped before an instruction.
     Stopped(Stop),
-    /// The limit of packets was reached; the counts are those up to the next packet.
+    /// The limit of packets was reached; the counts go from the packet from which the session counts to the last one
+    /// before the limit.
     Limit(Counts),
-    /// The last packet is finished; the counts are those up to it.
+    /// The last packet is finished; the counts go from the packet from which the session counts to the capture's last.
     Finished(Counts),
 }
 
@@ -79,7 +80,7 @@ pub enum SessionFault {
     /// S8: a count of 0.
     ZeroCount,
     /// S9: the extension takes no value.
-    NoValue,
+    TakesNoValue,
     /// Out of memory.
     Memory,
 }

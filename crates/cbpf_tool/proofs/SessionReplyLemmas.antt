@@ -11,7 +11,7 @@ use Rattle.cbpf_dbg.specs.View.{View}
 use Rattle.cbpf_reply.specs.Breakpoints.{When}
 use Rattle.cbpf_reply.specs.declared.reply.SessionFault.{SessionFault}
 use Rattle.cbpf_reply.specs.declared.reply.SessionFault.TheVariants.{Memory, NoInstruction}
-use Rattle.cbpf_reply.specs.Errors.{fault_text, memory_text}
+use Rattle.cbpf_reply.specs.Errors.{session_fault_text, memory_text}
 use Rattle.cbpf_tool.proofs.FileLemmas.{none-counted}
 use Rattle.cbpf_tool.specs.Progress.{Answered, Writes, Replies}
 use Rattle.cbpf_tool.specs.Replies.{own, unheld}
@@ -33,11 +33,11 @@ reply-ok text m n (Err f) x old new r e v w = absurd (cc)
 -- a call that refused
 pub reply-err : {R X E : Type 0} (text : R → View → List ℕ) (m n : View) (a : Answer R) (f : SessionFault)
     (old new : Option (List ℕ)) (r : Result X E) → Err f ≡ reply_of a → n ≡ view_after m a
-    → Wrote old new r (fault_text f) → Writes (reply_and_view text m a) n (λ s. Wrote old new r s)
+    → Wrote old new r (session_fault_text f) → Writes (reply_and_view text m a) n (λ s. Wrote old new r s)
 unfolding reply_and_view Writes
 reply-err text m n (Ok a) f old new r e v w = absurd (cc)
 reply-err text m n (Err g) f old new r e v w = let k : f ≡ g = cc in
-    (v, subst (λ (y : SessionFault). Wrote old new r (fault_text y)) k w)
+    (v, subst (λ (y : SessionFault). Wrote old new r (session_fault_text y)) k w)
 
 -- a call that only asks
 pub text-ok : {R X E : Type 0} (text : R → List ℕ) (a : Result R SessionFault) (x : R) (old new : Option (List ℕ))
@@ -48,11 +48,11 @@ text-ok text (Err f) x old new r e w = absurd (cc)
 
 pub text-err : {R X E : Type 0} (text : R → List ℕ) (a : Result R SessionFault) (f : SessionFault)
     (old new : Option (List ℕ)) (r : Result X E)
-    → Err f ≡ a → Wrote old new r (fault_text f) → Wrote old new r (reply_text text a)
+    → Err f ≡ a → Wrote old new r (session_fault_text f) → Wrote old new r (reply_text text a)
 unfolding reply_text
 text-err text (Ok y) f old new r e w = absurd (cc)
 text-err text (Err g) f old new r e w = let k : f ≡ g = cc in
-    subst (λ (z : SessionFault). Wrote old new r (fault_text z)) k w
+    subst (λ (z : SessionFault). Wrote old new r (session_fault_text z)) k w
 
 -- the view that is named as the one after it
 pub writes-view : {X E : Type 0} (text : List ℕ) (m n : View) (old new : Option (List ℕ)) (r : Result X E) → n ≡ m
@@ -112,7 +112,7 @@ set-ok m k when x (inr h) = absurd (cc)
 pub set-refused : {X E : Type 0} (m n : View) (k : ℕ) (when : When) (f : SessionFault) (old new : Option (List ℕ))
     (r : Result X E)
     → (Err f ≡ reply_of (breakpoint_when m k when)) ⊎ ((Err f ≡ no_memory) × IsOk (breakpoint_when m k when))
-    → (Err f ≡ no_memory → lookup (nat_eq k) m.breakpoints ≡ None) → n ≡ m → Wrote old new r (fault_text f)
+    → (Err f ≡ no_memory → lookup (nat_eq k) m.breakpoints ≡ None) → n ≡ m → Wrote old new r (session_fault_text f)
     → Replies m n (Breakpoint k when) (λ s. Wrote old new r s)
 unfolding Replies
 set-refused m n k when f old new r (inl e) absent v w =
@@ -121,6 +121,6 @@ set-refused m n k when f old new r (inl e) absent v w =
 set-refused m n k when f old new r (inr e) absent v w =
     let at : Err f ≡ no_memory = e.0 in
     let is : f ≡ Memory = cc in
-    inr ((e.1, absent at), writes-view memory_text m n old new r v (subst (λ (g : SessionFault). Wrote old new r (fault_text g)) is w))
+    inr ((e.1, absent at), writes-view memory_text m n old new r v (subst (λ (g : SessionFault). Wrote old new r (session_fault_text g)) is w))
 
 pub ruleset replies = (reply-ok, reply-err, text-ok, text-err, writes-view, own-reply)

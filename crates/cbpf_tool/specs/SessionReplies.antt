@@ -11,7 +11,7 @@ use Rattle.cbpf_reply.specs.declared.reply.SessionFault.{SessionFault}
 use Rattle.cbpf_reply.specs.Breakpoints.{breakpoints_text, set_in}
 use Rattle.cbpf_reply.specs.CDump.{c_dump_text}
 use Rattle.cbpf_reply.specs.Counts.{at_text, place_text}
-use Rattle.cbpf_reply.specs.Errors.{fault_text, no_program_text}
+use Rattle.cbpf_reply.specs.Errors.{session_fault_text, no_program_text}
 use Rattle.cbpf_reply.specs.Stops.{stops_text}
 use Rattle.cbpf_reply.specs.Values.{value_text}
 use Rattle.cbpf_tool.specs.RunText.{run_text}
@@ -23,12 +23,12 @@ use Rattle.cbpf_tool.specs.declared.command.SessionCommand.TheVariants.{Select, 
 -- the text of an answer and the view after it; a refusal leaves the view
 unfoldable pub reply_and_view : {R : Type 0} → (R → View → List ℕ) → View → Answer R → List ℕ × View
 reply_and_view text m (Ok a) = (text a.0 a.1, a.1)
-reply_and_view text m (Err e) = (fault_text e, m)
+reply_and_view text m (Err e) = (session_fault_text e, m)
 
 -- the same of a command that only asks
 unfoldable pub reply_text : {R : Type 0} → (R → List ℕ) → Result R SessionFault → List ℕ
 reply_text text (Ok r) = text r
-reply_text text (Err e) = fault_text e
+reply_text text (Err e) = session_fault_text e
 
 -- an instruction of a program that is loaded
 abbrev pub HasInstruction : Option (List Insn) → ℕ → Type 0

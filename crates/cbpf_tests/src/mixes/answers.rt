@@ -170,7 +170,7 @@ fn delete(m: &mut Model, n: u64) -> Result<bool, SessionFault> {
 fn set_value(rt: &impl Test, m: &mut Model, e: Ext, v: u32) -> Result<(), SessionFault> {
     for without in &WITHOUT_VALUE {
         if *without == e {
-            return Err(SessionFault::NoValue);
+            return Err(SessionFault::TakesNoValue);
         }
     }
     m.values.push((e, v)).expect(rt, "memory");

@@ -3,7 +3,7 @@ use Rattle.cbpf_machine.specs.Machine.{machine_of}
 use Rattle.cbpf_dbg.proofs.WholeLemmas.{HasLoaded}
 use Rattle.cbpf_dbg.proofs.CarryLemmas.{known-sound}
 use Rattle.cbpf_dbg.specs.Commands.{run}
-use Rattle.cbpf_dbg.specs.Here.{StopsHere}
+use Rattle.cbpf_dbg.specs.Here.{RunStopsHere}
 use Rattle.cbpf_dbg.proofs.HereLemmas.{of-answer, run-returns}
 use Rattle.cbpf_dbg.proofs.ShownStops.{shows-run}
 use Rattle.cbpf_dbg.proofs.session.Session.run.Goals as goal
@@ -27,7 +27,7 @@ returns-clause-returns g c =
       values = rw (← c.self.view_is) refl;
       capture = rw (← c.self.view_is) c.in-Some-capture.is;
     } in
-    of-answer StopsHere (run c.args.self.now c.args.limit) c.args.self.now _ _ (returns-clause-reply g c)
+    of-answer RunStopsHere (run c.args.self.now c.args.limit) c.args.self.now _ _ (returns-clause-reply g c)
     (returns-clause-after g c) (run-returns _ _ c.args.self.now holds c.args.limit)
 
 pub returns-clause-ahead : goal.returns-clause-ahead
