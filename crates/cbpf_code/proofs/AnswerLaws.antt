@@ -22,7 +22,7 @@ use Rattle.cbpf_code.specs.WordTokens.{tokens}
 use Rattle.cbpf_code.specs.WordText.{count, fault_of}
 use Rattle.cbpf_code.specs.WordText.{count_of, list_of, Spells, Refused}
 use Rattle.cbpf_code.specs.Laws.{EachTextIsRead, EachListIsChecked}
-use Rattle.cbpf_code.proofs.WordAnswerLemmas.{as-refused, first_fault-other}
+use Rattle.cbpf_code.proofs.WordAnswerLemmas.{as-refused, first_word_fault-other}
 use Rattle.cbpf_code.proofs.Decided.{Decided, is_true, at_most, both, is_none}
 use Rattle.cbpf_code.proofs.PathLemmas.{formed-checked}
 use Rattle.cbpf_code.proofs.SoundLemmas.{known_or}
@@ -139,7 +139,7 @@ each_text_is_read text = by (fault_of text) refl
         → ((list : List Insn) × Spells text list) ⊎ ((e : WordFault) × (e ≢ Memory) × Refused text e)
     by (Some e) is = inr (
       e,
-      (λ memory. first_fault-other count (length text) (tokens text) (is ∙ ap Some memory)),
+      (λ memory. first_word_fault-other count (length text) (tokens text) (is ∙ ap Some memory)),
       as-refused text e (inl is),
     )
     by None is = elim (cases_eq (count_of text) (length (list_of text))) [

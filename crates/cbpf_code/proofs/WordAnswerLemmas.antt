@@ -4,7 +4,7 @@ use Rattle.std.proofs.Common.{◌≡◌, ◌≢◌, ℕ, ◌⊎◌, inl, inr, Li
 use Rattle.std.proofs.Common.{arith, tests}
 use Rattle.cbpf_code.specs.WordTokens.{WordToken, numeral, single, tokens}
 use Rattle.std.specs.Option.{option_or}
-use Rattle.cbpf_code.specs.WordText.{Due, count, next_due, limit_of, token_fault, first_fault, fault_of}
+use Rattle.cbpf_code.specs.WordText.{Due, count, next_due, limit_of, token_fault, first_word_fault, fault_of}
 use Rattle.cbpf_code.specs.WordText.{Spells, Miscounts, Refused}
 use Rattle.cbpf_code.specs.declared.insn.Insn.{Insn}
 use Rattle.cbpf_code.specs.declared.words.WordFault.{WordFault}
@@ -38,14 +38,14 @@ or-other : (o p : Option WordFault) → o ≢ Some Memory → p ≢ Some Memory 
 or-other None p first then = then
 or-other (Some e) p first then = first
 
-pub first_fault-other : (due : Due) (n : ℕ) (ms : List WordToken) → first_fault due n ms ≢ Some Memory
-first_fault-other count n [] h = cc
-first_fault-other _ n [] h = cc
-first_fault-other due n (m ∷ ms) h =
-    or-other _ _ (token_fault-other (limit_of due) m) (first_fault-other (next_due due) n ms) h
+pub first_word_fault-other : (due : Due) (n : ℕ) (ms : List WordToken) → first_word_fault due n ms ≢ Some Memory
+first_word_fault-other count n [] h = cc
+first_word_fault-other _ n [] h = cc
+first_word_fault-other due n (m ∷ ms) h =
+    or-other _ _ (token_fault-other (limit_of due) m) (first_word_fault-other (next_due due) n ms) h
 
 pub as-refused : (text : List ℕ) (e : WordFault) → Faulty text e → Refused text e
-as-refused text Memory (inl h) = absurd (first_fault-other count (length text) (tokens text) h)
+as-refused text Memory (inl h) = absurd (first_word_fault-other count (length text) (tokens text) h)
 as-refused text Memory (inr m) = absurd (let h = m.fault in cc)
 as-refused text e faulty = faulty
 

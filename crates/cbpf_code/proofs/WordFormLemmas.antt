@@ -10,7 +10,7 @@ use Rattle.std.proofs.lemmas.Str.{digit_value_digit}
 use Rattle.std.proofs.lemmas.Str.Parse.{digit_from_value}
 use Rattle.cbpf_code.specs.WordTokens.{numeral, is_digit, begins_with_digit, decimal_value, tokens_placed}
 use Rattle.cbpf_code.specs.WordText.{Due, count, count_comma, code, jt, jf, k, comma, next_due, limit_of}
-use Rattle.cbpf_code.specs.WordText.{first_fault, numbers, Spells}
+use Rattle.cbpf_code.specs.WordText.{first_word_fault, numbers, Spells}
 use Rattle.cbpf_code.specs.WordForm.{InRange, word_line, word_text}
 use Rattle.cbpf_code.specs.WordSteps.{fields_of}
 use Rattle.cbpf_code.proofs.WordTokenLemmas.{law-empty, law-blank, law-single, law-numeral}
@@ -51,7 +51,8 @@ tokens-decimal at n rest h stop =
 -- wherever the text stands, nothing is wrong with it where something is due, and its numbers are ns
 abbrev Reads : List ℕ → Due → List ℕ → Type 0
 Reads text due ns =
-    (at : ℕ) → ((n : ℕ) → first_fault due n (tokens_placed at text) ≡ None) × (numbers (tokens_placed at text) ≡ ns)
+    (at : ℕ) → ((n : ℕ) → first_word_fault due n (tokens_placed at text) ≡ None)
+    × (numbers (tokens_placed at text) ≡ ns)
 
 reads-newline : Reads (codes "\n") code []
 reads-newline at = rw (law-blank at 10 [] refl, law-empty (at + 1)) ((λ n. refl), refl)

@@ -2,7 +2,7 @@
 use Rattle.std.proofs.Common.{◌≡◌, ◌≢◌, ℕ, inl, inr, List, [], ◌∷◌, ◌++◌, length, drop, append_assoc, append-nil}
 use Rattle.std.proofs.Common.{◌≤◌, length-append, refl, sym, ◌∙◌, ap, subst, arith, Some, None}
 use Rattle.cbpf_code.specs.WordTokens.{tokens, tokens_from}
-use Rattle.cbpf_code.specs.WordText.{Due, count, count_comma, code, comma, end_fault, first_fault, numbers}
+use Rattle.cbpf_code.specs.WordText.{Due, count, count_comma, code, comma, end_fault, first_word_fault, numbers}
 use Rattle.cbpf_code.specs.WordText.{in_fours, list_of, Spells, Refused}
 use Rattle.cbpf_code.proofs.WordAnswerLemmas.{as-refused}
 use Rattle.cbpf_code.specs.WordSteps.{fault_from, PassesTokens, IsFaultAt, IsRead, IsReadWhole, fields_of}
@@ -27,7 +27,7 @@ stops-then : {text : List ℕ} {a b : Due} {at mid : ℕ} {ns : List ℕ} {e at_
     → fault_from text a at ≡ Some e
 stops-then x (inl h) last = x.good ∙ h
 stops-then {text} {a} {b} x (inr h) last =
-    x.good ∙ ap (first_fault b (length text)) h.0 ∙ last h.0 ∙ ap Some (sym h.1)
+    x.good ∙ ap (first_word_fault b (length text)) h.0 ∙ last h.0 ∙ ap Some (sym h.1)
 
 in_fours-fields : (list : List Insn) → in_fours (fields_of list) ≡ list
 in_fours-fields [] = refl
@@ -83,7 +83,7 @@ pub stops-first : (text : List ℕ) (e : WordFault) → IsFaultAt text count 0 e
     → Refused text e
 stops-first text e (inl h) = as-refused text e (inl h)
 stops-first text e (inr h) =
-    as-refused text e (inl (ap (first_fault count (length text)) h.0 ∙ ap Some (sym h.1)))
+    as-refused text e (inl (ap (first_word_fault count (length text)) h.0 ∙ ap Some (sym h.1)))
 
 pub stops-count : (text : List ℕ) (n a : ℕ) (e : WordFault) → PassesTokens text count 0 (n ∷ []) count_comma a
     → IsFaultAt text count_comma a e (CommaExpected (length text)) → Refused text e

@@ -1,4 +1,4 @@
--- Each word text and each list of instructions has an answer, where no growth is refused.
+-- Each word text and each list of instructions has an answer, which isn't out of memory.
 use Rattle.std.specs.Prelude.{◌≢◌, ◌⊎◌, ℕ, List}
 use Rattle.cbpf_code.specs.declared.insn.Insn.{Insn}
 use Rattle.cbpf_code.specs.declared.checker.CheckFault.{CheckFault}

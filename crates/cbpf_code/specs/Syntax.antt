@@ -1,6 +1,6 @@
 -- How an operation is written: its mnemonic, and the addressing mode of its operand (the kernel's operations as in
 -- Documentation/networking/filter, "BPF engine and instruction set": the tables of instructions and of addressing
--- modes). Of forms that stand for one operation a listing has one.
+-- modes). Where an operation can be written in several ways, a listing uses one of them.
 use Rattle.std.specs.Prelude.{ℕ, List, codes}
 use Rattle.cbpf_code.specs.declared.opcode.Op.{Op}
 use Rattle.cbpf_code.specs.declared.opcode.Op.TheVariants.{LdImm, LdAbs, LdInd, LdMem, LdLen, LdxImm, LdxMem, LdxLen}

@@ -1,15 +1,16 @@
 -- What the reader's steps take from the tokens of a text. No public clause names it.
 use Rattle.std.specs.Prelude.{◌≡◌, ℕ, ◌<◌, ◌≤◌, ◌⊎◌, List, [], ◌∷◌, ◌++◌, length, Option, Some, None}
 use Rattle.cbpf_code.specs.WordTokens.{tokens, tokens_from}
-use Rattle.cbpf_code.specs.WordText.{Due, count, code, first_fault, fault_of, numbers}
+use Rattle.cbpf_code.specs.WordText.{Due, count, code, first_word_fault, fault_of, numbers}
 use Rattle.cbpf_code.specs.declared.insn.Insn.{Insn}
 use Rattle.cbpf_code.specs.declared.words.WordFault.{WordFault}
 
 -- the first thing wrong from a place on
 abbrev pub fault_from : List ℕ → Due → ℕ → Option WordFault
-fault_from text due at = first_fault due (length text) (tokens_from text at)
+fault_from text due at = first_word_fault due (length text) (tokens_from text at)
 
--- from a place on, where something is due, good tokens with these numbers come up to an end, where something else is
+-- The numbers from `at` on are these and then those from `end` on. The first thing wrong from `at` on, where `due` is
+-- due, is the first from `end` on, where `next` is due; so the tokens between have no fault.
 pub record PassesTokens (text : List ℕ) (due : Due) (at : ℕ) (ns : List ℕ) (next : Due) (end : ℕ) : Type 0 where
   pub within : end ≤ length text
   pub after : at < end

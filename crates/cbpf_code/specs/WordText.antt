@@ -51,13 +51,13 @@ end_fault comma n = None
 end_fault _ n = Some (NumberExpected n)
 
 -- the first thing wrong with the tokens up to the end at place n
-abbrev pub first_fault : Due → ℕ → List WordToken → Option WordFault
-first_fault due n [] = end_fault due n
-first_fault due n (t ∷ ts) = option_or (token_fault (limit_of due) t) (first_fault (next_due due) n ts)
+abbrev pub first_word_fault : Due → ℕ → List WordToken → Option WordFault
+first_word_fault due n [] = end_fault due n
+first_word_fault due n (t ∷ ts) = option_or (token_fault (limit_of due) t) (first_word_fault (next_due due) n ts)
 
 -- the first thing wrong with a whole text, but for a count that differs
 abbrev pub fault_of : List ℕ → Option WordFault
-fault_of text = first_fault count (length text) (tokens text)
+fault_of text = first_word_fault count (length text) (tokens text)
 
 -- the values of the runs of digits, in order
 abbrev pub numbers : List WordToken → List ℕ
@@ -70,7 +70,7 @@ abbrev pub in_fours : List ℕ → List Insn
 in_fours (a ∷ b ∷ c ∷ d ∷ ns) = record { code = a; jt = b; jf = c; k = d } ∷ in_fours ns
 in_fours _ = []
 
--- the first number of a text
+-- the first number of a text; it matters only where `fault_of` is `None`, and then there is one
 abbrev pub count_of : List ℕ → ℕ
 count_of text = slice_index (numbers (tokens text)) 0
 
@@ -90,7 +90,7 @@ pub record Miscounts (text : List ℕ) (e : WordFault) : Type 0 where
   pub differs : count_of text ≢ length (list_of text)
   pub fault : e ≡ CountDiffers (count_of text) (length (list_of text))
 
--- the fault that the text has; `Memory` only says that a count and the four numbers of an instruction are there
+-- the fault that the text has; `Memory` says only that the text has five numbers or more, in whatever places
 abbrev pub Refused : List ℕ → WordFault → Type 0
 Refused text Memory = 5 ≤ length (numbers (tokens text))
 Refused text e = (fault_of text ≡ Some e) ⊎ Miscounts text e
