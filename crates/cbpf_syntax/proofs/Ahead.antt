@@ -26,7 +26,7 @@ pub next_more : (n : ℕ) (ts us : List Lexeme) (item : Item) → n < length ts 
     → IsNextItem (ts ++ us) n item
 next_more n ts us item l next = record {
   goes = goes_more n ts us l next.goes;
-  form = subst (λ x. IsItem x item) (front_as n ts (ts ++ us) (front_more n ts us l)) next.form;
+  is_item = subst (λ x. IsItem x item) (front_as n ts (ts ++ us) (front_more n ts us l)) next.is_item;
 }
 
 pub label_more : (ts us : List Lexeme) → starts_with_label ts ≡ true → starts_with_label (ts ++ us) ≡ true

@@ -9,7 +9,7 @@ use Rattle.cbpf_syntax.specs.Table.{classes, table}
 use Rattle.cbpf_syntax.specs.Fits.{fits, fits_all, fits_front}
 use Rattle.cbpf_syntax.specs.Items.{Item, Items, IsItem}
 use Rattle.cbpf_syntax.specs.Steps.{Goes, Stuck, IsNextItem, starts_with_colon}
-use Rattle.cbpf_syntax.specs.Refusals.{is_large_at, IsLargeNegative, IsStuckAt}
+use Rattle.cbpf_syntax.specs.Refusals.{is_large_at, IsLargeNegative, ItemsStuckAt}
 use Rattle.cbpf_syntax.proofs.Elements.{any_element, some_element}
 use Rattle.cbpf_syntax.proofs.Apart.{no_classes}
 use Rattle.cbpf_syntax.proofs.Greedy.{Greedy}
@@ -62,7 +62,7 @@ base_step t ts s = by_whole (cases_Bool (some_whole (take front.0 (t ∷ ts))))
         → NextOrStuck (t ∷ ts)
     by_whole (inl found) =
         let r = some_element (λ r. fits_all (classes r) (take front.0 (t ∷ ts))) table found in
-        inl (front.0, _, record { goes = goes; form = form_of 0 r.0 (take front.0 (t ∷ ts)) r.1 r.2 })
+        inl (front.0, _, record { goes = goes; is_item = form_of 0 r.0 (take front.0 (t ∷ ts)) r.1 r.2 })
     by_whole (inr other) = inr (front.0, record { goes = goes; none = λ i form. none front.0 i form other })
       where
         none : (n : ℕ) (i : Item) → IsItem (take n (t ∷ ts)) i → some_whole (take n (t ∷ ts)) ≡ false → ⊥
@@ -95,7 +95,7 @@ step (t ∷ u ∷ ts) = elim (cases_Bool (fits (the_mark 58) u.symbol)) [
 
 -- the tokens are items, or don't go on at an index; of those after the ones that were read there are so many at most
 pub reach : (ts : List Lexeme) (left at : ℕ) (is : List Item) → length ts ≤ at + left → Greedy ts is (drop at ts)
-    → ((js : List Item) × Items ts js) ⊎ ((s : ℕ) × IsStuckAt ts s)
+    → ((js : List Item) × Items ts js) ⊎ ((s : ℕ) × ItemsStuckAt ts s)
 reach ts zero at is l p = inl (is, greedy_all ts is at (omega (arith, l)) p)
 reach ts (suc left) at is l p = elim (cases_lt at (length ts)) [
   | inr end ↦ inl (is, greedy_all ts is at end p)

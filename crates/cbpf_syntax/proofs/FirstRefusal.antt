@@ -7,10 +7,10 @@ use Rattle.std.proofs.lemmas.Option.{slice_get-get_or}
 use Rattle.cbpf_syntax.specs.Lexemes.{Lexeme}
 use Rattle.cbpf_syntax.specs.Items.{Item, Items, BeginsItems}
 use Rattle.cbpf_syntax.specs.Refusals.ParseFault.{Misplaced, LargeNegative, Unfinished}
-use Rattle.cbpf_syntax.specs.Refusals.{ParseFault, IsLargeNegative, IsStuckAt, IsRefusedAt, IsFirstRefusal}
-use Rattle.cbpf_syntax.specs.Refusals.{IsAccepted, IsPlaceOf, IsRefusedFor}
+use Rattle.cbpf_syntax.specs.Refusals.{ParseFault, IsLargeNegative, ItemsStuckAt, IsRefusedAt, IsFirstRefusal}
+use Rattle.cbpf_syntax.specs.Refusals.{IsAccepted, IsPlaceOf, IsFirstRefusalAtPlace}
 use Rattle.cbpf_syntax.specs.Ahead.{IsFirstLarge}
-use Rattle.cbpf_syntax.specs.Laws.{OneRefusal, EachParsed}
+use Rattle.cbpf_syntax.specs.Laws.{OneFirstRefusal, EachParsed}
 use Rattle.cbpf_syntax.proofs.Cuts.{some-same}
 use Rattle.cbpf_syntax.proofs.Greedy.{begins_take}
 use Rattle.cbpf_syntax.proofs.Apart.{begins_none}
@@ -32,19 +32,19 @@ not_before ts s i b l w none Misplaced q r = elim (cases_lt q s) [
 not_before ts s i b l w none LargeNegative q r = elim (cases_lt q i) [ inl m ↦ absurd (none q m r) | inr m ↦ m ]
 not_before ts s i b l w none Unfinished q r = omega (arith, r.0)
 
-large_first : (ts : List Lexeme) (s i : ℕ) → IsStuckAt ts s → i < s → IsLargeNegative ts i
+large_first : (ts : List Lexeme) (s i : ℕ) → ItemsStuckAt ts s → i < s → IsLargeNegative ts i
     → ((k : ℕ) → k < i → IsLargeNegative ts k → ⊥) → IsFirstRefusal ts LargeNegative i
 large_first ts s i stuck l large none =
     record { refused = large; first = not_before ts s i stuck.before (omega arith) stuck.within none }
 
-misplaced_first : (ts : List Lexeme) (s : ℕ) → IsStuckAt ts s → s < length ts
+misplaced_first : (ts : List Lexeme) (s : ℕ) → ItemsStuckAt ts s → s < length ts
     → ((k : ℕ) → k < s → IsLargeNegative ts k → ⊥) → IsFirstRefusal ts Misplaced s
 misplaced_first ts s stuck l none = record {
   refused = record { within = l; before = stuck.before; with_it = stuck.next l };
   first = not_before ts s s stuck.before (omega arith) stuck.within none;
 }
 
-unfinished_first : (ts : List Lexeme) (s : ℕ) → IsStuckAt ts s → s ≡ length ts
+unfinished_first : (ts : List Lexeme) (s : ℕ) → ItemsStuckAt ts s → s ≡ length ts
     → ((k : ℕ) → k < s → IsLargeNegative ts k → ⊥) → IsFirstRefusal ts Unfinished s
 unfinished_first ts s stuck e none = record {
   refused = (
@@ -86,7 +86,7 @@ same_fault ts Unfinished Misplaced p a b = absurd (omega (arith, a.0, b.within))
 same_fault ts Unfinished LargeNegative p a b = absurd (omega (arith, a.0, large_within ts p b))
 same_fault ts Unfinished Unfinished p a b = refl
 
-pub one_refusal : OneRefusal
+pub one_refusal : OneFirstRefusal
 one_refusal ts f g p q a b =
     let before = a.first g q b.refused in
     let after = b.first f p a.refused in
@@ -112,13 +112,14 @@ each_parsed ts = elim (reach ts (length ts) 0 [] (omega arith) refl) [
 
 -- a list of no tokens is items, so each refusal has a token that shows it
 pub each_shown : (ts : List Lexeme) (f : ParseFault) (p : ℕ) → IsFirstRefusal ts f p
-    → (at : ℕ) × IsRefusedFor ts f at
+    → (at : ℕ) × IsFirstRefusalAtPlace ts f at
 each_shown [] f p r = absurd (items_accepted [] [] refl (λ k h. omega (arith, large_within [] k h)) f p r.refused)
 each_shown (t ∷ ts) f p r =
     let some = slice_get-get_or (t ∷ ts) (min p (length (t ∷ ts) - 1)) t (omega arith) in
     (_, record { index = p; first = r; shown = ap (option_map (λ (u : Lexeme). u.at)) some })
 
-pub one_shown : (ts : List Lexeme) (f g : ParseFault) (m n : ℕ) → IsRefusedFor ts f m → IsRefusedFor ts g n
+pub one_shown : (ts : List Lexeme) (f g : ParseFault) (m n : ℕ) → IsFirstRefusalAtPlace ts f m
+    → IsFirstRefusalAtPlace ts g n
     → (f ≡ g) × (m ≡ n)
 one_shown ts f g m n a b =
     let e = one_refusal ts f g a.index b.index a.first b.first in
@@ -126,12 +127,12 @@ one_shown ts f g m n a b =
 
 -- a refusal that is shown by the token at its index
 shown_there : (ts : List Lexeme) (f : ParseFault) (p at : ℕ) → p < length ts → IsFirstRefusal ts f p
-    → IsPlaceOf ts p at → IsRefusedFor ts f at
+    → IsPlaceOf ts p at → IsFirstRefusalAtPlace ts f at
 shown_there ts f p at l r place =
     let e : min p (length ts - 1) ≡ p = omega arith in record { index = p; first = r; shown = rw e place }
 
-pub refused_large : (us vs : List Lexeme) (at : ℕ) → IsStuckAt (us ++ vs) (length us) → IsFirstLarge us (Some at)
-    → IsRefusedFor (us ++ vs) LargeNegative at
+pub refused_large : (us vs : List Lexeme) (at : ℕ) → ItemsStuckAt (us ++ vs) (length us) → IsFirstLarge us (Some at)
+    → IsFirstRefusalAtPlace (us ++ vs) LargeNegative at
 refused_large us vs at stuck h =
     let l = large_within us h.0 h.1 in
     let here = large_left us vs h.0 l ∙ h.1 in
@@ -141,12 +142,12 @@ refused_large us vs at stuck h =
 
 -- the same where the tokens are items
 pub large_refused : (ts : List Lexeme) (items : List Item) (at : ℕ) → Items ts items → IsFirstLarge ts (Some at)
-    → IsRefusedFor ts LargeNegative at
+    → IsFirstRefusalAtPlace ts LargeNegative at
 large_refused ts items at p h =
     shown_there ts LargeNegative h.0 at (large_within ts h.0 h.1) (items_large ts items h.0 p h.1 h.2) h.3
 
-pub refused_misplaced : (us vs : List Lexeme) (at : ℕ) → IsPlaceOf vs 0 at → IsStuckAt (us ++ vs) (length us)
-    → IsFirstLarge us None → IsRefusedFor (us ++ vs) Misplaced at
+pub refused_misplaced : (us vs : List Lexeme) (at : ℕ) → IsPlaceOf vs 0 at → ItemsStuckAt (us ++ vs) (length us)
+    → IsFirstLarge us None → IsFirstRefusalAtPlace (us ++ vs) Misplaced at
 refused_misplaced us [] at place stuck none = cc
 refused_misplaced us (v ∷ vs) at place stuck none =
     let l : length us < length (us ++ (v ∷ vs)) = omega (arith, length-append us (v ∷ vs)) in
@@ -156,17 +157,17 @@ refused_misplaced us (v ∷ vs) at place stuck none =
     (rw here at (place_right us (v ∷ vs) 0 at place))
 
 -- a list of no tokens is items
-stuck_some : (ts : List Lexeme) (i : ℕ) → IsStuckAt ts i → 0 < length ts
+stuck_some : (ts : List Lexeme) (i : ℕ) → ItemsStuckAt ts i → 0 < length ts
 stuck_some [] i stuck = absurd (stuck.end (omega (arith, stuck.within)) [] refl)
 stuck_some (t ∷ ts) i stuck = omega arith
 
 pub refused_unfinished : (us vs : List Lexeme) (at : ℕ) → vs ≡ []
-    → (0 < length us → IsPlaceOf us (length us - 1) at) → IsStuckAt (us ++ vs) (length us) → IsFirstLarge us None
-    → IsRefusedFor (us ++ vs) Unfinished at
+    → (0 < length us → IsPlaceOf us (length us - 1) at) → ItemsStuckAt (us ++ vs) (length us) → IsFirstLarge us None
+    → IsFirstRefusalAtPlace (us ++ vs) Unfinished at
 refused_unfinished us (v ∷ vs) at e place stuck none = cc
 refused_unfinished us [] at e place stuck none =
     let last : min (length us) (length us - 1) ≡ length us - 1 = omega arith in
-    let whole : IsStuckAt us (length us) = rw append-nil at stuck in
+    let whole : ItemsStuckAt us (length us) = rw append-nil at stuck in
     rw append-nil (record {
       index = length us;
       first = unfinished_first us (length us) whole refl (λ k b. none k);

@@ -11,7 +11,7 @@ use Rattle.cbpf_syntax.specs.Fits.{fits, fits_all, fits_front}
 use Rattle.cbpf_syntax.specs.Table.{Row, table}
 use Rattle.cbpf_syntax.specs.Items.{Item, IsItem, Items, BeginsItem, BeginsItems, classes_of}
 use Rattle.cbpf_syntax.specs.Steps.{Goes, Stuck, IsNextItem}
-use Rattle.cbpf_syntax.specs.Refusals.{IsStuckAt}
+use Rattle.cbpf_syntax.specs.Refusals.{ItemsStuckAt}
 use Rattle.cbpf_syntax.proofs.Fronts.{whole_front, length_whole, length_front, front_before, front_joined, front_cut}
 use Rattle.cbpf_syntax.proofs.Apart.{overlap, apart, overlap_sound, starts_with_comma, comma_only, comma_reading}
 use Rattle.cbpf_syntax.proofs.Apart.{readings_apart, begins_none}
@@ -135,7 +135,7 @@ first_of_all n ts js goes some p =
     first_item n ts ts [] js goes (sym (append-nil ts)) p begins_nil (λ h. omega (arith, some, ap length h))
 
 -- where no item is at the front, the tokens don't go on
-pub stuck_first : (n : ℕ) (ts : List Lexeme) → 0 < length ts → Stuck n ts → IsStuckAt ts n
+pub stuck_first : (n : ℕ) (ts : List Lexeme) → 0 < length ts → Stuck n ts → ItemsStuckAt ts n
 stuck_first n ts some s = record {
   within = s.goes.within;
   before = begins_items (take n ts) s.goes.begins;
@@ -144,13 +144,13 @@ stuck_first n ts some s = record {
 }
 
 -- where they don't go on after an item, they don't with it
-pub stuck_after : (n s : ℕ) (ts : List Lexeme) (i : Item) → IsNextItem ts n i → n < length ts → IsStuckAt (drop n ts) s
-    → IsStuckAt ts (n + s)
+pub stuck_after : (n s : ℕ) (ts : List Lexeme) (i : Item) → IsNextItem ts n i → n < length ts
+    → ItemsStuckAt (drop n ts) s → ItemsStuckAt ts (n + s)
 stuck_after n s ts i next l stuck =
     let rest : length (drop n ts) ≡ length ts - n = length-drop n ts in
     record {
       within = omega (arith, stuck.within);
-      before = subst BeginsItems (take_both n s ts) (items_after (take n ts) _ i next.form stuck.before);
+      before = subst BeginsItems (take_both n s ts) (items_after (take n ts) _ i next.is_item stuck.before);
       next = λ k b.
           let r = first_of n (n + s + 1) ts next.goes (omega arith) (omega arith) b in
           let add : n + (s + 1) ≡ n + s + 1 = omega arith in

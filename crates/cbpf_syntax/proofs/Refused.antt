@@ -9,7 +9,7 @@ use Rattle.cbpf_syntax.specs.Lexemes.{Lexeme}
 use Rattle.cbpf_syntax.specs.Items.{Item, Items}
 use Rattle.cbpf_syntax.specs.Views.{symbol_of, lexeme_of}
 use Rattle.cbpf_syntax.specs.Steps.{Stuck, IsNextItem}
-use Rattle.cbpf_syntax.specs.Refusals.{symbol_at, is_large, is_large_at, IsLargeNegative, IsStuckAt}
+use Rattle.cbpf_syntax.specs.Refusals.{symbol_at, is_large, is_large_at, IsLargeNegative, ItemsStuckAt}
 use Rattle.cbpf_syntax.specs.Lexemes.{Symbol}
 use Rattle.cbpf_syntax.specs.Lexemes.Symbol.{number, mark}
 use Rattle.std.proofs.Common.{true, Option, ap, eqb-true}
@@ -57,7 +57,7 @@ greedy_more ts is at n i p next = rw drop-drop at (greedy_snoc ts is (drop at ts
 pub greedy_items : (ts : List Lexeme) (is : List Item) → Greedy ts is [] → Items ts is
 greedy_items ts [] p = p
 greedy_items ts (i ∷ is) p =
-    (take p.0 ts, drop p.0 ts, sym (take-append-drop p.0 ts), p.1.form, greedy_items (drop p.0 ts) is p.2)
+    (take p.0 ts, drop p.0 ts, sym (take-append-drop p.0 ts), p.1.is_item, greedy_items (drop p.0 ts) is p.2)
 
 pub greedy_all : (ts : List Lexeme) (is : List Item) (at : ℕ) → length ts ≤ at
     → Greedy ts is (drop at ts) → Items ts is
@@ -65,25 +65,25 @@ greedy_all ts is at l p = greedy_items ts is (rw (drop_all at ts l) at p)
 
 -- an item has a token
 pub next_some : (ts : List Lexeme) (n : ℕ) (i : Item) → IsNextItem ts n i → 0 < n
-next_some ts zero i next = absurd (no_classes next.form.count i.row next.form.row next.form.fits)
+next_some ts zero i next = absurd (no_classes next.is_item.count i.row next.is_item.row next.is_item.fits)
 next_some ts (suc n) i next = omega arith
 
 pub stuck_from : (ts : List Lexeme) (is : List Item) (rest : List Lexeme) (s : ℕ) → Greedy ts is rest → 0 < length rest
-    → IsStuckAt rest s → (m : ℕ) × (length ts ≡ m + length rest) × IsStuckAt ts (m + s)
+    → ItemsStuckAt rest s → (m : ℕ) × (length ts ≡ m + length rest) × ItemsStuckAt ts (m + s)
 stuck_from ts [] rest s p some stuck =
-    let none : s ≡ 0 + s = omega arith in rw p (0, omega arith, subst (λ m. IsStuckAt rest m) none stuck)
+    let none : s ≡ 0 + s = omega arith in rw p (0, omega arith, subst (λ m. ItemsStuckAt rest m) none stuck)
 stuck_from ts (i ∷ is) rest s p some stuck =
     let r = stuck_from (drop p.0 ts) is rest s p.2 some stuck in
     let size : length (drop p.0 ts) ≡ length ts - p.0 = length-drop p.0 ts in
     let add : p.0 + (r.0 + s) ≡ p.0 + r.0 + s = omega arith in
     let l : p.0 < length ts = omega (arith, r.1) in
-    (p.0 + r.0, omega (arith, r.1), subst (λ m. IsStuckAt ts m) add (stuck_after p.0 (r.0 + s) ts i p.1 l r.2))
+    (p.0 + r.0, omega (arith, r.1), subst (λ m. ItemsStuckAt ts m) add (stuck_after p.0 (r.0 + s) ts i p.1 l r.2))
 
 pub stuck_at : (ts : List Lexeme) (is : List Item) (at n : ℕ) → at < length ts → Greedy ts is (drop at ts)
-    → Stuck n (drop at ts) → IsStuckAt ts (at + n)
+    → Stuck n (drop at ts) → ItemsStuckAt ts (at + n)
 stuck_at ts is at n l p s =
     let size : length (drop at ts) ≡ length ts - at = length-drop at ts in
     let some : 0 < length (drop at ts) = omega arith in
     let r = stuck_from ts is (drop at ts) n p some (stuck_first n (drop at ts) some s) in
     let same : r.0 ≡ at = omega (arith, r.1) in
-    subst (λ m. IsStuckAt ts (m + n)) same r.2
+    subst (λ m. ItemsStuckAt ts (m + n)) same r.2

@@ -94,16 +94,16 @@ pub label_item : (t u : Lexeme) (ts : List Lexeme) (n : ℕ) (item : Item) → f
     → fits (the_mark 58) u.symbol ≡ true → IsNextItem ts n item → IsNextItem (t ∷ u ∷ ts) (suc (suc n))
     (record { labels = t ∷ item.labels; row = item.row; body = item.body })
 label_item t u ts n item a b next =
-    let twice : suc next.form.count + suc next.form.count ≡ suc (suc (next.form.count + next.form.count)) =
+    let twice : suc next.is_item.count + suc next.is_item.count ≡ suc (suc (next.is_item.count + next.is_item.count)) =
     omega arith in
     record {
       goes = label_goes t u ts n a b next.goes;
-      form = record {
-        count = suc next.form.count;
-        row = next.form.row;
-        fits = rw (a, b, next.form.fits) refl;
-        labels = ap (λ ls. t ∷ ls) next.form.labels;
-        body = next.form.body ∙ ap (λ k. drop k (t ∷ u ∷ take n ts)) (sym twice);
+      is_item = record {
+        count = suc next.is_item.count;
+        row = next.is_item.row;
+        fits = rw (a, b, next.is_item.fits) refl;
+        labels = ap (λ ls. t ∷ ls) next.is_item.labels;
+        body = next.is_item.body ∙ ap (λ k. drop k (t ∷ u ∷ take n ts)) (sym twice);
       };
     }
 
@@ -188,7 +188,10 @@ module _ (w : List ℕ) (at : ℕ) (us : List Lexeme) (m : Mnemonic) (best : Mat
   mnemonic_whole h =
       let size = length-take-le best.len us (omega (arith, goes.within)) in
       let all = front_whole (classes (row_of best.row)) (lexeme w at ∷ take best.len us) fit (omega (arith, h)) in
-      rw h (record { goes = goes; form = form_of 0 (row_of best.row) _ (row_known m (row_of best.row) p b.known) all })
+      rw h (record {
+        goes = goes;
+        is_item = form_of 0 (row_of best.row) _ (row_known m (row_of best.row) p b.known) all;
+      })
 
   pub mnemonic_part : length (row_of best.row).operand ≢ best.len → Stuck (suc best.len) (lexeme w at ∷ us)
   mnemonic_part h = record {

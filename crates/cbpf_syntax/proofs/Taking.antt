@@ -27,7 +27,7 @@ use Rattle.cbpf_syntax.specs.Views.{lexeme_of, row_of}
 use Rattle.cbpf_syntax.specs.Steps.{Goes, IsNextItem, Stuck, starts_with_label}
 use Rattle.cbpf_syntax.specs.Refusals.{symbol_at, is_large_at, IsLargeNegative, IsPlaceOf}
 use Rattle.std.proofs.lemmas.List.{append_cancel_left}
-use Rattle.cbpf_syntax.specs.Ahead.{Ahead, IsReading, MayRemain, IsStepOf, step_len, StartsWithWord, IsFirstLarge}
+use Rattle.cbpf_syntax.specs.Ahead.{Ahead, HasTaken, MayRemain, IsStepOf, step_len, StartsWithWord, IsFirstLarge}
 use Rattle.cbpf_syntax.proofs.Ahead.{next_more, stuck_more, label_more}
 
 -- the tokens that were read are the first of the whole text's
@@ -43,7 +43,7 @@ ahead_is text at us ts a t =
     )
 
 -- what follows the tokens that were taken, in a text that has them all
-pub remains : (text : List ℕ) (taken : List Lexeme) (a : Ahead) (ts : List Lexeme) → IsReading taken a → a.text ≡ text
+pub remains : (text : List ℕ) (taken : List Lexeme) (a : Ahead) (ts : List Lexeme) → HasTaken taken a → a.text ≡ text
     → AreLexemes text (taken ++ ts) → MayRemain a ts
 remains text taken a ts r same t =
     let all = ahead_is a.text a.to _ _ r.read (rw (← same) at t) in (

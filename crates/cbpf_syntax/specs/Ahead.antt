@@ -7,7 +7,7 @@ use Rattle.cbpf_syntax.specs.declared.reader.Step.TheVariants.{Label, Instructio
 use Rattle.cbpf_syntax.specs.Refusals.{IsLargeNegative, IsPlaceOf, symbol_at}
 use Rattle.cbpf_syntax.specs.Lexemes.{Lexeme, AreLexemesTo}
 use Rattle.cbpf_syntax.specs.Lexemes.Symbol.{word}
-use Rattle.cbpf_syntax.specs.Steps.{IsInstruction, Stuck, starts_with_label}
+use Rattle.cbpf_syntax.specs.Steps.{IsFoundInstruction, Stuck, starts_with_label}
 use Rattle.cbpf_syntax.specs.Views.{lexeme_of}
 
 -- where the tokens up to one place are some taken ones and the old, those up to the other are the same taken ones and
@@ -26,7 +26,8 @@ pub record Ahead : Type 0 where
   pub last : ℕ
   pub large : Option ℕ
 
--- how much there is to be read and taken
+-- the number of bytes not read, and of tokens read and not taken: a step that succeeds doesn't raise it, and each
+-- `take` lowers it, so that a caller's loop ends
 abbrev pub left : Ahead → ℕ
 left a = (length a.text - a.to) + length a.tokens
 
@@ -38,7 +39,7 @@ StartsWithWord ts = (w : List ℕ) × (symbol_at ts 0 ≡ Some (word w))
 abbrev pub IsStepOf : List Lexeme → Option Step → Type 0
 IsStepOf ts None = ts ≡ []
 IsStepOf ts (Some Label) = starts_with_label ts ≡ true
-IsStepOf ts (Some (Instruction row)) = IsInstruction ts (Ok row)
+IsStepOf ts (Some (Instruction row)) = IsFoundInstruction ts (Ok row)
 IsStepOf ts (Some (stuck_step n)) = Stuck n ts
 
 -- how many tokens a step is
@@ -55,7 +56,7 @@ IsFirstLarge ts (Some at) =
     (i : ℕ) × IsLargeNegative ts i × ((k : ℕ) → k < i → IsLargeNegative ts k → ⊥) × IsPlaceOf ts i at
 
 -- these tokens were taken: they and those ahead are the text's, up to the place to which it was read
-pub record IsReading (taken : List Lexeme) (a : Ahead) : Type 0 where
+pub record HasTaken (taken : List Lexeme) (a : Ahead) : Type 0 where
   pub read : AreLexemesTo a.text a.to (taken ++ map lexeme_of a.tokens)
   pub end : a.ended ≡ true → a.to ≡ length a.text
   pub last : 0 < length taken → IsPlaceOf taken (length taken - 1) a.last

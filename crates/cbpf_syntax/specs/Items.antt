@@ -39,13 +39,16 @@ names_at (c ∷ cs) (t ∷ ts) = when_name c t ++ names_at cs ts
 
 -- the tokens are an item: they fit its labels and a row of the table
 pub record IsItem (tokens : List Lexeme) (item : Item) : Type 0 where
+  -- the number of labels, each of which is a word and a colon
   pub count : ℕ
   pub row : Contains table item.row
   pub fits : fits_all (classes_of count item.row) tokens ≡ true
+  -- the words of the labels, without the colons
   pub labels : item.labels ≡ names_at (label_classes count) tokens
+  -- the tokens after the labels
   pub body : item.body ≡ drop (count + count) tokens
 
--- the tokens are the forms of the items, one after another
+-- the tokens are these items, one after another
 abbrev pub Items : List Lexeme → List Item → Type 0
 Items tokens [] = tokens ≡ []
 Items tokens (item ∷ items) = (front : List Lexeme) × (rest : List Lexeme) × (tokens ≡ front ++ rest)

@@ -8,8 +8,8 @@ use Rattle.cbpf_syntax.specs.Refusals.{ParseFault, IsFirstRefusal, IsAccepted}
 abbrev pub OneItemList : Type 0
 OneItemList = (ts : List Lexeme) (is js : List Item) → Items ts is → Items ts js → is ≡ js
 
-abbrev pub OneRefusal : Type 0
-OneRefusal = (ts : List Lexeme) (f g : ParseFault) (p q : ℕ) → IsFirstRefusal ts f p → IsFirstRefusal ts g q
+abbrev pub OneFirstRefusal : Type 0
+OneFirstRefusal = (ts : List Lexeme) (f g : ParseFault) (p q : ℕ) → IsFirstRefusal ts f p → IsFirstRefusal ts g q
     → (f ≡ g) × (p ≡ q)
 
 -- each token list is items and has no refusal, or has a first refusal

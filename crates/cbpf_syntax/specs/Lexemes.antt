@@ -1,5 +1,6 @@
 -- Tokens as the grammar of the assembler sees them: words by their bytes, numbers by their values, marks (of the
--- kernel's Documentation/networking/filter, and this project's own).
+-- kernel's Documentation/networking/filter, and this project's own). A lexeme is a token by what it says, with its
+-- place; the comments of the grammar's files call it a token.
 use Rattle.std.specs.Prelude.{◌≡◌, ℕ, List, length, map, slice_range}
 use Rattle.cbpf_syntax.specs.declared.token.Kind.{Kind}
 use Rattle.cbpf_syntax.specs.declared.token.Kind.TheVariants as kinds
@@ -25,16 +26,16 @@ abbrev pub token_lexeme : List ℕ → Token → Lexeme
 token_lexeme text token =
     record { symbol = token_symbol (slice_range text token.start token.end) token.kind; at = token.start }
 
--- the tokens of a text
+-- the lexemes of these tokens of a text
 abbrev pub lexemes_of : List ℕ → List Token → List Lexeme
 lexemes_of text tokens = map (token_lexeme text) tokens
 
--- the tokens of the text up to a place
+-- the text up to a place has these lexemes
 pub record AreLexemesTo (text : List ℕ) (to : ℕ) (lexemes : List Lexeme) : Type 0 where
   pub tokens : List Token
   pub lexed : LexesTo text to tokens
   pub are : lexemes ≡ lexemes_of text tokens
 
--- the text has these tokens
+-- the whole text has these lexemes
 abbrev pub AreLexemes : List ℕ → List Lexeme → Type 0
 AreLexemes text lexemes = AreLexemesTo text (length text) lexemes

@@ -12,7 +12,7 @@ digit_value b =
     else (if nat_le 65 b && nat_le b 70 then b - 55
     else 16))
 
--- the value of digits of the base after digits of the value `high`, where each is one
+-- the number that these bytes spell as further digits after a number `high`, if each is a digit of the base
 abbrev pub digits_value : ℕ → ℕ → List ℕ → Option ℕ
 digits_value base high [] = Some high
 digits_value base high (b ∷ bs) =

@@ -32,7 +32,8 @@ abbrev pub number_kind : Option ℕ → PieceKind
 number_kind None = Bad NoToken
 number_kind (Some n) = if nat_lt n number_limit then TokenOf (Number n) else Bad LargeNumber
 
--- a numeral, which is a run of name bytes that begins with a digit: a number, where it spells one below the limit
+-- A numeral, which is a run of name bytes that begins with a digit: a number, where it spells one below the limit.
+-- A numeral of word text has only digits (`WordTokens` of `cbpf_code`).
 abbrev pub numeral_kind : List ℕ → PieceKind
 numeral_kind bytes = number_kind (number_value bytes)
 
@@ -46,7 +47,8 @@ abbrev pub has_close : List ℕ → Bool
 has_close [] = false
 has_close (b ∷ bs) = begins_with_close (b ∷ bs) || has_close bs
 
--- The bytes after a `/*`: a comment where they end with their first `*/`, an open comment where they have none.
+-- The bytes after a `/*`: a comment where they end with their first `*/`, an open comment where they have none. They
+-- end with their first where they have one and no `*/` ends before the last byte.
 abbrev pub comment_kind : List ℕ → Option PieceKind
 comment_kind bs =
     if has_close bs then only_if (not (has_close (take (length bs - 1) bs))) Comment else Some (Bad OpenComment)
@@ -88,7 +90,8 @@ IsCut text at (piece ∷ pieces) to = IsPieceAt text at piece × IsCut text (at 
 
 -- The next piece, as the lexer finds it by the first byte: a matter of this crate alone, which no public clause names.
 
--- how many bytes there are up to the end of the first `*/`, where there is one, and whether a `*` stands before them
+-- how many bytes there are up to the end of the first `*/`, where there is one; `star` says that a `*` stands before
+-- the bytes
 abbrev pub close_after : Bool → List ℕ → Option ℕ
 close_after star [] = None
 close_after star (b ∷ bs) = if star && b == 47 then Some 1 else option_map suc (close_after (b == 42) bs)

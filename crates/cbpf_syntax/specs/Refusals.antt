@@ -47,21 +47,21 @@ pub record IsUnfinished (ts : List Lexeme) : Type 0 where
   pub begins : BeginsItems ts
   pub none : (items : List Item) → Items ts items → ⊥
 
--- the tokens begin items up to the index, and with the next token,
--- or where there is none as a whole, they don't go on
-pub record IsStuckAt (ts : List Lexeme) (i : ℕ) : Type 0 where
+-- The tokens before the index begin items. With the token at the index they don't; or, where the index is the end, they
+-- are no items.
+pub record ItemsStuckAt (ts : List Lexeme) (i : ℕ) : Type 0 where
   pub within : i ≤ length ts
   pub before : BeginsItems (take i ts)
   pub next : i < length ts → BeginsItems (take (i + 1) ts) → ⊥
   pub end : i ≡ length ts → (items : List Item) → Items ts items → ⊥
 
--- the tokens are refused for this at the index, which is their number where it is their end
+-- the tokens are refused for this fault at this index; a refusal at their end has the index `length ts`
 abbrev pub IsRefusedAt : List Lexeme → ParseFault → ℕ → Type 0
 IsRefusedAt ts Misplaced i = IsMisplaced ts i
 IsRefusedAt ts LargeNegative i = IsLargeNegative ts i
 IsRefusedAt ts Unfinished i = (i ≡ length ts) × IsUnfinished ts
 
--- and no refusal has an earlier index
+-- the tokens are refused for this fault at this index, and no refusal has an earlier one
 pub record IsFirstRefusal (ts : List Lexeme) (fault : ParseFault) (i : ℕ) : Type 0 where
   pub refused : IsRefusedAt ts fault i
   pub first : (other : ParseFault) (j : ℕ) → IsRefusedAt ts other j → i ≤ j
@@ -70,9 +70,9 @@ pub record IsFirstRefusal (ts : List Lexeme) (fault : ParseFault) (i : ℕ) : Ty
 abbrev pub IsPlaceOf : List Lexeme → ℕ → ℕ → Type 0
 IsPlaceOf ts i at = option_map (λ (t : Lexeme). t.at) (slice_get ts i) ≡ Some at
 
--- the first refusal of tokens, with the place in the text of the token that shows it:
--- the one that is refused, or the last one where that is their end
-pub record IsRefusedFor (ts : List Lexeme) (fault : ParseFault) (at : ℕ) : Type 0 where
+-- The first refusal of tokens, by the place in the text of the token that shows it. That is the token at the index of
+-- the refusal; where that index is their end, it is the last one.
+pub record IsFirstRefusalAtPlace (ts : List Lexeme) (fault : ParseFault) (at : ℕ) : Type 0 where
   pub index : ℕ
   pub first : IsFirstRefusal ts fault index
   pub shown : IsPlaceOf ts (min index (length ts - 1)) at

@@ -15,7 +15,7 @@ pub record Goes (n : ℕ) (ts : List Lexeme) : Type 0 where
   pub begins : BeginsItem (take n ts)
   pub no_farther : n < length ts → BeginsItem (take (suc n) ts) → ⊥
 
--- the tokens go so far, and these are no item
+-- the tokens go so far towards one item, and these are no item; `ItemsStuckAt` is about a list of items
 pub record Stuck (n : ℕ) (ts : List Lexeme) : Type 0 where
   pub goes : Goes n ts
   pub none : (i : Item) → IsItem (take n ts) i → ⊥
@@ -23,7 +23,7 @@ pub record Stuck (n : ℕ) (ts : List Lexeme) : Type 0 where
 -- the tokens go so far, and these are the item
 pub record IsNextItem (ts : List Lexeme) (n : ℕ) (item : Item) : Type 0 where
   pub goes : Goes n ts
-  pub form : IsItem (take n ts) item
+  pub is_item : IsItem (take n ts) item
 
 abbrev pub starts_with_colon : List Lexeme → Bool
 starts_with_colon [] = false
@@ -39,9 +39,10 @@ AreLabels [] = Unit {0}
 AreLabels (t ∷ []) = ⊥
 AreLabels (t ∷ u ∷ ts) = (fits name t.symbol ≡ true) × (fits (the_mark 58) u.symbol ≡ true) × AreLabels ts
 
--- the row's mnemonic and operand stand at the front, or only a part of them does
-abbrev pub IsInstruction : List Lexeme → Result declared_row.Row ℕ → Type 0
-IsInstruction ts (Ok row) =
+-- `Ok row`: the row stands at the front, and no longer beginning of an item does. `Err n`: the first n tokens are the
+-- longest beginning of an item there, and are no item.
+abbrev pub IsFoundInstruction : List Lexeme → Result declared_row.Row ℕ → Type 0
+IsFoundInstruction ts (Ok row) =
     let n = suc (length row.operand.now) in
     IsNextItem ts n (record { labels = []; row = row_of row; body = take n ts })
-IsInstruction ts (Err n) = Stuck n ts
+IsFoundInstruction ts (Err n) = Stuck n ts

@@ -32,13 +32,13 @@ pub record Row : Type 0 where
 abbrev pub classes : Row → List Class
 classes row = the_word row.mnemonic ∷ row.operand
 
--- an addressing mode of a mnemonic, with the forms of its operand
+-- a mode of a mnemonic, with its operation and the forms of its operand
 pub record TableEntry : Type 0 where
   pub forms : List (List Class)
   pub op : Op
   pub fields : Fields
 
--- a mnemonic with its addressing modes
+-- a mnemonic with its modes
 pub record Mnemonic : Type 0 where
   pub word : List ℕ
   pub entries : List TableEntry
@@ -69,36 +69,36 @@ abbrev pub one : Class → List (List Class)
 one c = (c ∷ []) ∷ []
 
 -- a part that is one mark
-abbrev pub byte : ℕ → List (List Class)
-byte b = one (the_mark b)
+abbrev pub one_mark : ℕ → List (List Class)
+one_mark b = one (the_mark b)
 
 -- the marks that stand by themselves
 abbrev open_bracket : List (List Class)
-open_bracket = byte 91
+open_bracket = one_mark 91
 
 abbrev close_bracket : List (List Class)
-close_bracket = byte 93
+close_bracket = one_mark 93
 
 abbrev open_parenthesis : List (List Class)
-open_parenthesis = byte 40
+open_parenthesis = one_mark 40
 
 abbrev close_parenthesis : List (List Class)
-close_parenthesis = byte 41
+close_parenthesis = one_mark 41
 
 abbrev asterisk : List (List Class)
-asterisk = byte 42
+asterisk = one_mark 42
 
 abbrev ampersand : List (List Class)
-ampersand = byte 38
+ampersand = one_mark 38
 
 abbrev plus : List (List Class)
-plus = byte 43
+plus = one_mark 43
 
 abbrev hash : List (List Class)
-hash = byte 35
+hash = one_mark 35
 
 abbrev pub comma : List (List Class)
-comma = byte 44
+comma = one_mark 44
 
 -- a number with an optional `+` or `-`
 abbrev pub signed : List (List Class)
@@ -149,7 +149,7 @@ header = one (exactly 4) · asterisk · open_parenthesis · open_bracket · sign
 abbrev pub no_operand : List (List Class)
 no_operand = [] ∷ []
 
--- an addressing mode by the forms of its operand
+-- a mode of a mnemonic, by the forms of its operand
 abbrev pub entry : List (List Class) → Op → Fields → TableEntry
 entry forms op fields = record { forms = forms; op = op; fields = fields }
 
@@ -168,19 +168,19 @@ abbrev pub two_targets : Cond → List TableEntry
 two_targets c = entry (immediate · comma · label · comma · label) (Jump c src.K) Branch
     ∷ entry (x_operand · comma · label · comma · label) (Jump c src.X) Branch ∷ []
 
--- a word with its addressing modes
+-- a word with its modes
 abbrev pub mnemonic : List ℕ → List TableEntry → Mnemonic
 mnemonic word entries = record { word = word; entries = entries }
 
--- under the word that a listing writes, one addressing mode
+-- a mnemonic with one mode; its word is the one that a listing writes for the operation
 abbrev pub only : List (List Class) → Op → Fields → Mnemonic
 only forms op fields = mnemonic (mnemonic_of op) (entry forms op fields ∷ [])
 
--- under the word that a listing writes, a conditional jump with two targets or one
+-- a mnemonic of conditional jumps with two targets or one; its word is the one that a listing writes for them
 abbrev pub conditional : Cond → Mnemonic
 conditional c = mnemonic (mnemonic_of (Jump c src.K)) (two_targets c ++ one_target c Branch)
 
--- under the word that a listing writes, an operation with a constant or with x
+-- a mnemonic of an operation with a constant or with x; its word is the one that a listing writes for it
 abbrev pub arithmetic : AluOp → Mnemonic
 arithmetic op = mnemonic (mnemonic_of (Alu op src.K))
     (entry immediate (Alu op src.K) Constant ∷ entry x_operand (Alu op src.X) Constant ∷ [])
@@ -213,11 +213,11 @@ mnemonics =
     ∷ mnemonic (mnemonic_of RetK) (entry immediate RetK Constant ∷ entry a_operand RetA Constant ∷ [])
     ∷ []
 
--- a row for each form of an addressing mode
+-- a row for each form of a mode
 abbrev pub entry_rows : List ℕ → TableEntry → List Row
 entry_rows word e = map (λ form. record { mnemonic = word; operand = form; op = e.op; fields = e.fields }) e.forms
 
--- the rows of all addressing modes of a mnemonic
+-- the rows of all modes of a mnemonic
 abbrev pub rows_of : Mnemonic → List Row
 rows_of m = flat_map (entry_rows m.word) m.entries
 

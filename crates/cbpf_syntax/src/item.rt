@@ -1,7 +1,7 @@
 //! The instruction at the front of tokens.
 
 ghost use Rattle.std.specs.Prelude.{◌≡◌, false, map};
-ghost use Rattle.cbpf_syntax.specs.Steps.{IsInstruction, starts_with_label};
+ghost use Rattle.cbpf_syntax.specs.Steps.{IsFoundInstruction, starts_with_label};
 ghost use Rattle.cbpf_syntax.specs.Views.{lexeme_of};
 
 use crate::choice::{best_row, is_whole};
@@ -33,7 +33,7 @@ pub(crate) fn starts_with_label(tokens: &[Lexeme<'_>]) -> bool
 /// The row of the instruction at the front, or how many tokens fit one.
 pub(crate) fn instruction(tokens: &[Lexeme<'_>]) -> Result<Row, usize>
     requires { starts_with_label (map lexeme_of tokens.now) ≡ false }
-    ensures { IsInstruction (map lexeme_of tokens.now) result }
+    ensures { IsFoundInstruction (map lexeme_of tokens.now) result }
 {
     let Some(first) = tokens.first() else {
         return Err(0);

@@ -6,7 +6,8 @@ ghost use Rattle.cbpf_syntax.specs.Views.{class_of, mode_forms};
 use crate::class::Class;
 use crate::class::Class::{Exactly, Extension, Literal, Mark, Name, Negated, Word};
 
-/// An addressing mode.
+/// An addressing mode of a source. `Operand` of `cbpf_code` has only those that a listing uses, and
+/// there an extension's name belongs to `Absolute`.
 #[derive(Clone, Copy)]
 pub enum Mode {
     /// `x`

@@ -7,8 +7,8 @@ ghost use Rattle.cbpf_syntax.specs.declared.token.Token.{Token};
 ghost use Rattle.cbpf_syntax.specs.Tokens.{Lexes, LexesTo, IsLexFault};
 ghost use Rattle.cbpf_syntax.specs.Lexemes.{AreLexemes, AreLexemesTo};
 ghost use Rattle.cbpf_syntax.specs.Lexemes as lexemes;
-ghost use Rattle.cbpf_syntax.specs.Refusals.{ParseFault, IsStuckAt, IsRefusedFor, reported_at};
-ghost use Rattle.cbpf_syntax.specs.Ahead.{IsReading, IsStepOf, step_len, left, StartsWithWord};
+ghost use Rattle.cbpf_syntax.specs.Refusals.{ParseFault, ItemsStuckAt, IsFirstRefusalAtPlace, reported_at};
+ghost use Rattle.cbpf_syntax.specs.Ahead.{HasTaken, IsStepOf, step_len, left, StartsWithWord};
 ghost use Rattle.cbpf_syntax.specs.Ahead.{IsFirstLarge, ReadsOn, MayRemain};
 ghost use Rattle.cbpf_syntax.specs.Views.{lexeme_of};
 
@@ -30,7 +30,8 @@ pub enum Step {
     Label,
     /// An instruction, without labels.
     Instruction(Row),
-    /// So many tokens can begin a label or an instruction; the next one can't follow them.
+    /// So many tokens begin an item, an instruction with its labels, and aren't one. The next one
+    /// can't follow them, or there is none.
     Stuck(usize),
 }
 
@@ -181,7 +182,7 @@ impl<'a, A: Allocator> Reader<'a, A> {
     #[tactic(auto, using(crate::proofs::Taking::ahead_none))]
     pub fn new(alloc: A, text: &'a [u8]) -> Self
         ensures text { result.text ≡ text.now }
-        ensures reading { IsReading [] result }
+        ensures reading { HasTaken [] result }
     {
         Reader {
             text,
@@ -205,14 +206,14 @@ impl<'a, A: Allocator> Reader<'a, A> {
     fn fill(&mut self) -> Result<(), LexFault>
         ensures text { OnOk result (self.new.text ≡ self.old.text) }
         ensures reading { OnOk result ((taken : List lexemes.Lexeme) →
-            IsReading taken self.old → IsReading taken self.new) }
+            HasTaken taken self.old → HasTaken taken self.new) }
         ensures left { OnOk result (left self.new ≤ left self.old) }
         ensures more { OnOk result (self.new.ended ≡ false → self.old.to < self.new.to) }
         ensures farther { OnOk result (self.old.to ≤ self.new.to) }
         ensures within { OnOk result (self.new.to ≤ length self.new.text) }
         ensures end { OnOk result (self.new.ended ≡ true → self.new.to ≡ length self.new.text) }
         ensures fault { IfErr result (λ fault. (taken : List lexemes.Lexeme) →
-            IsReading taken self.old → IsLexFault self.old.text fault) }
+            HasTaken taken self.old → IsLexFault self.old.text fault) }
         ensures same { OnErr result (self.new ≡ self.old) }
     {
         let rest = self.ahead.len() - self.at;
@@ -240,7 +241,7 @@ impl<'a, A: Allocator> Reader<'a, A> {
     pub fn step(&mut self) -> Result<Option<Step>, LexFault>
         ensures text { OnOk result (self.new.text ≡ self.old.text) }
         ensures reading { OnOk result ((taken : List lexemes.Lexeme) →
-            IsReading taken self.old → IsReading taken self.new) }
+            HasTaken taken self.old → HasTaken taken self.new) }
         ensures left { OnOk result (left self.new ≤ left self.old) }
         ensures step { IfOk result (λ step. (ts : List lexemes.Lexeme) → MayRemain self.new ts → IsStepOf ts step) }
         ensures within { IfOk result (λ step. step_len step ≤ length self.new.tokens) }
@@ -249,10 +250,10 @@ impl<'a, A: Allocator> Reader<'a, A> {
         ensures end { IfOk result (λ step. step_len step ≡ length self.new.tokens → self.new.ended ≡ true) }
         ensures word { IfOk result (λ step. 0 < step_len step → StartsWithWord (map lexeme_of self.new.tokens)) }
         ensures fault { IfErr result (λ fault. (taken : List lexemes.Lexeme) →
-            IsReading taken self.old → IsLexFault self.old.text fault) }
+            HasTaken taken self.old → IsLexFault self.old.text fault) }
         ensures same_text { OnErr result (self.new.text ≡ self.old.text) }
         ensures reads_on { OnErr result ((taken : List lexemes.Lexeme) →
-            IsReading taken self.old → IsReading taken self.new) }
+            HasTaken taken self.old → HasTaken taken self.new) }
         ensures not_ended { OnErr result (self.new.ended ≡ false) }
     {
         loop {
@@ -264,14 +265,15 @@ impl<'a, A: Allocator> Reader<'a, A> {
         }
     }
 
-    /// Goes past tokens, of which the first is a word.
+    /// Goes past tokens. The first is a word, so that no number among them stands after a `-` that
+    /// was taken before.
     pub fn take(&mut self, n: usize)
         requires some { 0 < n }
         requires within { n ≤ length self.old.tokens }
         requires word { StartsWithWord (map lexeme_of self.old.tokens) }
         ensures text { self.new.text ≡ self.old.text }
-        ensures reading { (taken : List lexemes.Lexeme) → IsReading taken self.old →
-            IsReading (taken ++ map lexeme_of (take n self.old.tokens)) self.new }
+        ensures reading { (taken : List lexemes.Lexeme) → HasTaken taken self.old →
+            HasTaken (taken ++ map lexeme_of (take n self.old.tokens)) self.new }
         ensures left { left self.new + n ≡ left self.old }
     {
         let taken = &self.ahead()[..n];
@@ -288,15 +290,16 @@ impl<'a, A: Allocator> Reader<'a, A> {
         self.large
     }
 
-    /// The first refusal where the tokens go on so far and no farther.
+    /// The first refusal where the tokens go on so far and no farther. Where `n` isn't 0, the first of
+    /// the `n` tokens is a word, so that no number among them stands after a `-` that was taken before.
     pub fn fault(&self, n: usize) -> SyntaxFault
         requires within { n ≤ length self.now.tokens }
         requires end { n ≡ length self.now.tokens → self.now.ended ≡ true }
         requires word { 0 < n → StartsWithWord (map lexeme_of self.now.tokens) }
-        ensures { (taken ts : List lexemes.Lexeme) → IsReading taken self.now → MayRemain self.now ts →
-            IsStuckAt (taken ++ ts) (length taken + n) →
+        ensures { (taken ts : List lexemes.Lexeme) → HasTaken taken self.now → MayRemain self.now ts →
+            ItemsStuckAt (taken ++ ts) (length taken + n) →
             (refusal : ParseFault) × (at : ℕ) × (result ≡ reported_at refusal at) ×
-            IsRefusedFor (taken ++ ts) refusal at }
+            IsFirstRefusalAtPlace (taken ++ ts) refusal at }
     {
         let ahead = self.ahead();
         if let Some(at) = first_large(self.large, &ahead[..n]) {
@@ -313,9 +316,9 @@ impl<'a, A: Allocator> Reader<'a, A> {
 
     /// Reads the text to its end, from where its tokens were read, and keeps nothing of it.
     pub fn finish(&self) -> Result<(), LexFault>
-        ensures lexed { OnOk result ((taken : List lexemes.Lexeme) → IsReading taken self.now →
+        ensures lexed { OnOk result ((taken : List lexemes.Lexeme) → HasTaken taken self.now →
             (ts : List lexemes.Lexeme) × MayRemain self.now ts × AreLexemes self.now.text (taken ++ ts)) }
-        ensures fault { IfErr result (λ fault. (taken : List lexemes.Lexeme) → IsReading taken self.now →
+        ensures fault { IfErr result (λ fault. (taken : List lexemes.Lexeme) → HasTaken taken self.now →
             IsLexFault self.now.text fault) }
         ensures no_memory { IfErr result (λ fault. fault ≢ Memory) }
     {

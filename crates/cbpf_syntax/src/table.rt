@@ -22,7 +22,7 @@ pub enum Fields {
     Swapped,
 }
 
-/// An addressing mode of a mnemonic.
+/// A mode of a mnemonic, with its operation.
 #[derive(Clone, Copy)]
 pub struct TableEntry {
     pub mode: Mode,
@@ -30,7 +30,7 @@ pub struct TableEntry {
     pub fields: Fields,
 }
 
-/// A mnemonic with its addressing modes.
+/// A mnemonic with its modes.
 #[derive(Clone, Copy)]
 pub struct Mnemonic {
     pub word: &'static [u8],
@@ -95,7 +95,7 @@ macro_rules! alu {
     };
 }
 
-// One addressing mode.
+// One mode.
 macro_rules! only {
     ($op:ident, $mode:ident, $fields:ident) => {
         Mnemonic {

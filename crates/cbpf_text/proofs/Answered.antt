@@ -19,7 +19,7 @@ use Rattle.cbpf_text.specs.declared.fault.AsmKind.TheVariants as kinds
 use Rattle.cbpf_text.specs.declared.name.Name.{Name}
 use Rattle.cbpf_text.specs.declared.draft.Statement.{Statement}
 use Rattle.cbpf_text.specs.Labels.{labels_from, first_repeat}
-use Rattle.cbpf_text.specs.Assembled.{AssembleTokens, insns_from}
+use Rattle.cbpf_text.specs.Assembled.{TokensAssemble, insns_from}
 use Rattle.cbpf_text.specs.Refusals.{mnemonic_at, uses_from, uses_fault, items_fault, IsTokensFault, bad_piece_kind}
 use Rattle.cbpf_text.specs.Refusals.IsTokensFault.{of_grammar, of_items}
 use Rattle.cbpf_text.specs.Refusals.IsTextFault.{of_piece, of_tokens}
@@ -73,14 +73,14 @@ module _ {ss : List Statement} {rep : Option ℕ} {look : Name → Option ℕ} {
       (s.0, kept_fault some ∙ rw s.1 refl)
 
 each_tokens : (ts : List Lexeme)
-    → ((insns : List Insn) × AssembleTokens ts insns) ⊎ ((kind : AsmKind) × (at : ℕ) × IsTokensFault ts kind at)
+    → ((insns : List Insn) × TokensAssemble ts insns) ⊎ ((kind : AsmKind) × (at : ℕ) × IsTokensFault ts kind at)
 each_tokens ts = elim (each_parsed ts) [
   | inr r ↦ let shown = each_shown ts r.0 r.1 r.2 in inr (_, shown.0, of_grammar r.0 shown.0 shown.1)
   | inl p ↦ by_fault p.0 p.1 p.2 (items_fault p.0) refl
 ]
   where
     by_fault : (is : List Item) → Items ts is → IsAccepted ts → (o : Option (AsmKind × ℕ)) → items_fault is ≡ o
-        → ((insns : List Insn) × AssembleTokens ts insns) ⊎ ((kind : AsmKind) × (at : ℕ) × IsTokensFault ts kind at)
+        → ((insns : List Insn) × TokensAssemble ts insns) ⊎ ((kind : AsmKind) × (at : ℕ) × IsTokensFault ts kind at)
     by_fault is p a None e = let insns = insns_from (labels_from 0 is) 0 is in
         inl (insns, tokens_assembled ts is insns p a e refl)
     by_fault is p a (Some f) e = inr (f.0, f.1, of_items is f.0 f.1 p a e)

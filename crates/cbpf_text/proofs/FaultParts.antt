@@ -3,14 +3,14 @@ use Rattle.std.proofs.Common.{rules, ◌≡◌, refl, sym, subst, ℕ, List, ◌
 use Rattle.std.proofs.Common.{◌∷◌, ◌++◌, length, map, take, drop, get_or, Option, Some, None, arith, append_assoc}
 use Rattle.std.proofs.Common.{append-nil, length-append}
 use Rattle.cbpf_syntax.specs.Tokens.{line_of}
-use Rattle.cbpf_syntax.specs.Refusals.{ParseFault, IsAccepted, IsStuckAt, IsRefusedFor}
+use Rattle.cbpf_syntax.specs.Refusals.{ParseFault, IsAccepted, ItemsStuckAt, IsFirstRefusalAtPlace}
 use Rattle.cbpf_syntax.specs.Lexemes.{Lexeme, AreLexemes}
 use Rattle.cbpf_syntax.specs.Items.{Item, Items}
 use Rattle.cbpf_code.specs.declared.insn.Insn.{Insn}
 use Rattle.cbpf_text.specs.declared.fault.AsmFault.{AsmFault}
 use Rattle.cbpf_text.specs.declared.fault.AsmKind.{AsmKind}
 use Rattle.cbpf_text.specs.Labels.{labels_from}
-use Rattle.cbpf_text.specs.Assembled.{insns_from, AssembleTokens}
+use Rattle.cbpf_text.specs.Assembled.{insns_from, TokensAssemble}
 use Rattle.cbpf_text.specs.Refusals.{items_fault, ReportedIn, IsTokensFault, IsRefused, IsLexRefused}
 use Rattle.cbpf_text.specs.Refusals.{grammar_kind}
 use Rattle.cbpf_text.specs.Refusals.IsTokensFault.{of_grammar, of_items}
@@ -18,13 +18,13 @@ use Rattle.cbpf_text.specs.Refusals.IsTextFault.{of_piece, of_tokens}
 use Rattle.cbpf_text.specs.declared.fault.AsmFault.TheVariants as faults
 use Rattle.std.proofs.lemmas.List.{length-map, length-take-le, drop_at, nil_from_length}
 use Rattle.cbpf_syntax.specs.Views.{lexeme_of, row_of, label_words}
-use Rattle.cbpf_syntax.specs.Ahead.{Ahead, IsReading, IsFirstLarge, MayRemain}
+use Rattle.cbpf_syntax.specs.Ahead.{Ahead, HasTaken, IsFirstLarge, MayRemain}
 use Rattle.std.specs.Prelude.{Ok}
 use Rattle.std.proofs.Math.Seq.{take-append_seam}
 use Rattle.std.proofs.lemmas.Bool.{and_parts}
 use Rattle.cbpf_syntax.specs.Classes.Class.{the_mark, name}
 use Rattle.cbpf_syntax.specs.Fits.{fits}
-use Rattle.cbpf_syntax.specs.Steps.{IsInstruction, IsNextItem, Stuck, AreLabels, starts_with_label}
+use Rattle.cbpf_syntax.specs.Steps.{IsFoundInstruction, IsNextItem, Stuck, AreLabels, starts_with_label}
 use Rattle.cbpf_syntax.proofs.Greedy.{Greedy, stuck_first}
 use Rattle.cbpf_syntax.proofs.Ahead.{labels_item, labels_stuck, labels_append}
 use Rattle.cbpf_syntax.proofs.Taking.{remains}
@@ -38,7 +38,7 @@ use Rattle.cbpf_syntax.specs.declared.item.Row as declared_row
 use Rattle.cbpf_text.specs.declared.fault.AsmKind.TheVariants as kinds
 
 pub tokens_assembled : (ts : List Lexeme) (is : List Item) (insns : List Insn) → Items ts is → IsAccepted ts
-    → items_fault is ≡ None → insns ≡ insns_from (labels_from 0 is) 0 is → AssembleTokens ts insns
+    → items_fault is ≡ None → insns ≡ insns_from (labels_from 0 is) 0 is → TokensAssemble ts insns
 tokens_assembled ts is insns p a sound e = record {
   items = is;
   parsed = p;
@@ -67,7 +67,8 @@ items_refused text ts is (faults.At kind line) t p a h =
 
 -- the first refusal of the grammar is the text's
 pub grammar_refused : (text : List ℕ) (ts : List Lexeme) (refusal : ParseFault) (at : ℕ) (fault : AsmFault)
-    → AreLexemes text ts → IsRefusedFor ts refusal at → fault ≡ faults.At (grammar_kind refusal) (line_of text at)
+    → AreLexemes text ts → IsFirstRefusalAtPlace ts refusal at
+    → fault ≡ faults.At (grammar_kind refusal) (line_of text at)
     → IsRefused text fault
 grammar_refused text ts refusal at fault t first e =
     tokens_refused text ts (grammar_kind refusal) at fault t (of_grammar refusal at first) e
@@ -147,7 +148,7 @@ two_of window d e h1 = search (rules)
 
 -- The state before a step of a reader.
 module _ {text : List ℕ} {taken : List Lexeme} {o : Option ℕ} {ss : List Statement} {rep : Option ℕ}
-    {look : Name → Option ℕ} {waits : Bool} (a : Ahead) (r : IsReading taken a) (same : a.text ≡ text)
+    {look : Name → Option ℕ} {waits : Bool} (a : Ahead) (r : HasTaken taken a) (same : a.text ≡ text)
     (s : IsState text taken o ss rep look waits) where
   pub label_state : {p : Option ℕ} {tt : List Statement} {rep2 : Option ℕ} {look2 : Name → Option ℕ}
       (d : declared_lexeme.Lexeme)
@@ -172,7 +173,7 @@ module _ {text : List ℕ} {taken : List Lexeme} {o : Option ℕ} {ss : List Sta
 
   pub item_state : {p : Option ℕ} {tt : List Statement} {rep2 : Option ℕ} {look2 : Name → Option ℕ}
       (row : declared_row.Row) (m : ℕ) → m ≡ 1 + length row.operand.now
-      → ((ts : List Lexeme) → MayRemain a ts → IsInstruction ts (Ok row)) → m ≤ length a.tokens
+      → ((ts : List Lexeme) → MayRemain a ts → IsFoundInstruction ts (Ok row)) → m ≤ length a.tokens
       → ((is : List Item) (words : List Lexeme) → IsDraft o ss rep look is words → IsDraft p tt rep2 look2
       (is ++ (record { labels = words; row = row_of row; body = map lexeme_of (take m a.tokens) } ∷ [])) [])
       → IsState text (taken ++ map lexeme_of (take m a.tokens)) p tt rep2 look2 false
@@ -198,7 +199,7 @@ module _ {text : List ℕ} {taken : List Lexeme} {o : Option ℕ} {ss : List Sta
 
   -- where the tokens do not go on
   pub state_stuck : (k : ℕ) (ts : List Lexeme) → AreLexemes text (taken ++ ts) → 0 < length s.words + length ts
-      → Stuck k ts → IsStuckAt (taken ++ ts) (length taken + k)
+      → Stuck k ts → ItemsStuckAt (taken ++ ts) (length taken + k)
   state_stuck k ts t some stuck =
       let f = s.front ts t in
       let labels = rw f.words at (words_size f.ls f.labels) in
@@ -207,7 +208,7 @@ module _ {text : List ℕ} {taken : List Lexeme} {o : Option ℕ} {ss : List Sta
       (stuck_first (length f.ls + k) (f.ls ++ ts) inside (labels_stuck f.ls ts k f.labels stuck)) in
       let e : all.0 + (length f.ls + k) ≡ length taken + k =
       omega (arith, all.1, length-append taken ts, length-append f.ls ts) in
-      subst (λ j. IsStuckAt (taken ++ ts) j) e all.2
+      subst (λ j. ItemsStuckAt (taken ++ ts) j) e all.2
 
   -- the end of a text whose tokens are items
   pub state_items : waits ≡ false → AreLexemes text taken → Items taken s.is × IsDraft o ss rep look s.is []

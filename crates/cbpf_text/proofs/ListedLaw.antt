@@ -24,7 +24,7 @@ use Rattle.cbpf_syntax.specs.Fits.{fits_all}
 use Rattle.cbpf_syntax.specs.Table.{Row}
 use Rattle.cbpf_code.specs.Syntax.{mnemonic_of, operand_of}
 use Rattle.cbpf_code.specs.Listing.{numbered_line, operand_text, listing}
-use Rattle.cbpf_text.specs.Assembled.{insn_of, insns_from, Assembles, AssembleTokens}
+use Rattle.cbpf_text.specs.Assembled.{insn_of, insns_from, Assembles, TokensAssemble}
 use Rattle.cbpf_text.specs.Refusals.{uses_of, uses_from, uses_fault}
 use Rattle.cbpf_code.specs.Opcode.{code_of}
 use Rattle.cbpf_text.specs.Operands.{literal_of}
@@ -287,7 +287,7 @@ lists all i (insn ∷ insns) sound range here =
     (λ j x g. let e : i + 1 + j ≡ i + suc j = omega arith in rw e (here (suc j) x g)))
 
 tokens_assemble : (list : List Insn) (b : Lists (length list) 0 list) → IsSound list
-    → AssembleTokens (lexemes_at 0 b.segments) (map plain list)
+    → TokensAssemble (lexemes_at 0 b.segments) (map plain list)
 tokens_assemble list b sound =
     let items = b.items 0 in
     let few : length items ≤ MAX_INSTRUCTIONS = omega (arith, b.size 0, sound_few list sound) in
@@ -309,7 +309,7 @@ listing_assembles list sound range =
     let of_segments : Assembles (text_of b.segments) (map plain list) = record {
       tokens = tokens_of 0 (pieces_of b.segments);
       lexed = lexes_spelled b.segments b.are b.apart;
-      assembled = subst (λ ts. AssembleTokens ts (map plain list)) (sym (lexemes_spelled [] b.segments))
+      assembled = subst (λ ts. TokensAssemble ts (map plain list)) (sym (lexemes_spelled [] b.segments))
           (tokens_assemble list b sound);
     } in
     subst (λ t. Assembles t (map plain list)) b.text of_segments

@@ -11,24 +11,24 @@ use Rattle.cbpf_syntax.proofs.FirstRefusal.{items_accepted}
 use Rattle.cbpf_syntax.proofs.FirstRefusal as grammar
 use Rattle.cbpf_text.specs.declared.fault.AsmKind.{AsmKind}
 use Rattle.cbpf_text.specs.Labels.{labels_from}
-use Rattle.cbpf_text.specs.Assembled.{AssembleTokens, insns_from}
+use Rattle.cbpf_text.specs.Assembled.{TokensAssemble, insns_from}
 use Rattle.cbpf_text.specs.Refusals.{items_fault, IsTokensFault, bad_piece_kind, grammar_kind}
 use Rattle.cbpf_text.specs.Refusals.IsTokensFault.{of_grammar, of_items}
 use Rattle.cbpf_text.specs.Refusals.IsTextFault.{of_piece, of_tokens}
-use Rattle.cbpf_text.specs.Laws.{OneAssembly, NeverBoth, OneRefusal}
+use Rattle.cbpf_text.specs.Laws.{OneAssembly, NeverBoth, OneTextRefusal}
 
-one_assembled : (ts : List Lexeme) (xs ys : List Insn) → AssembleTokens ts xs → AssembleTokens ts ys → xs ≡ ys
+one_assembled : (ts : List Lexeme) (xs ys : List Insn) → TokensAssemble ts xs → TokensAssemble ts ys → xs ≡ ys
 one_assembled ts xs ys a b = let e : a.items ≡ b.items = one_item_list ts a.items b.items a.parsed b.parsed in
     a.encoded ∙ (ap (λ is. insns_from (labels_from 0 is) 0 is) e ∙ sym b.encoded)
 
 pub one_assembly : OneAssembly
 one_assembly text xs ys a b = let e : a.tokens ≡ b.tokens = one_list text a.tokens b.tokens a.lexed b.lexed in
     one_assembled (lexemes_of text b.tokens) xs ys
-    (subst (λ us. AssembleTokens (lexemes_of text us) xs) e a.assembled) b.assembled
+    (subst (λ us. TokensAssemble (lexemes_of text us) xs) e a.assembled) b.assembled
 
 -- A text that assembles isn't refused.
 
-not_tokens : (ts : List Lexeme) (insns : List Insn) (kind : AsmKind) (at : ℕ) → AssembleTokens ts insns
+not_tokens : (ts : List Lexeme) (insns : List Insn) (kind : AsmKind) (at : ℕ) → TokensAssemble ts insns
     → IsTokensFault ts kind at → ⊥
 not_tokens ts insns kind at a (of_grammar f n r) =
     items_accepted ts a.items a.parsed a.ranged f r.index r.first.refused
@@ -40,7 +40,7 @@ never_both text insns kind line a (of_piece bad l p) = lexer.never_both text a.t
 never_both text insns kind line a (of_tokens us k at l f) =
     let s : a.tokens ≡ us = lexer.one_list text a.tokens us a.lexed l in
     not_tokens (lexemes_of text us) insns k at
-    (subst (λ vs. AssembleTokens (lexemes_of text vs) insns) s a.assembled) f
+    (subst (λ vs. TokensAssemble (lexemes_of text vs) insns) s a.assembled) f
 
 -- A text has at most one refusal with a line.
 
@@ -54,7 +54,7 @@ one_of_tokens ts k l m n (of_items is c i o a x) (of_items js d j p b y) =
     let e = some-same (c, i) (d, j) (sym x ∙ (ap items_fault (one_item_list ts is js o p) ∙ y)) in
     (ap (λ q. q.0) e, ap (λ q. q.1) e)
 
-pub one_refusal : OneRefusal
+pub one_refusal : OneTextRefusal
 one_refusal text k l m n (of_piece c i x) (of_piece d j y) =
     let e = lexer.one_fault text c d m n x y in (ap bad_piece_kind e.0, e.1)
 one_refusal text k l m n (of_piece c i x) (of_tokens us d j y z) = absurd (lexer.never_both text us c i y x)

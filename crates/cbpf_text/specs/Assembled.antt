@@ -15,7 +15,8 @@ use Rattle.cbpf_text.specs.Labels.{name_of, labels_from, item_named}
 use Rattle.cbpf_text.specs.Operands.{literal_in, targets_in}
 use Rattle.cbpf_text.specs.Refusals.{items_fault}
 
--- the number of items between the one at the index and a target's, and 0 where there is no target
+-- The number of items between the one at the index and a target's, and 0 where there is no target. It is 0 too where
+-- the label isn't set or isn't after the jump, which `items_fault` refuses.
 abbrev pub offset_of : List (Lexeme × ℕ) → ℕ → Option Lexeme → ℕ
 offset_of labels index None = 0
 offset_of labels index (Some target) = unwrap_or (item_named labels (name_of target)) 0 - (index + 1)
@@ -32,13 +33,13 @@ abbrev pub insn_of : List (Lexeme × ℕ) → ℕ → Item → Insn
 insn_of labels index item = with_fields item.row.fields (code_of item.row.op) (literal_in item)
     (offset_of labels index (slice_get (targets_in item) 0)) (offset_of labels index (slice_get (targets_in item) 1))
 
--- those of items of which the first has the index
+-- the instructions of items; the first item's index is `index`
 abbrev pub insns_from : List (Lexeme × ℕ) → ℕ → List Item → List Insn
 insns_from labels index [] = []
 insns_from labels index (item ∷ items) = insn_of labels index item ∷ insns_from labels (index + 1) items
 
 -- the tokens are items, no literal is out of range, the items have no fault, and the instructions are theirs
-pub record AssembleTokens (ts : List Lexeme) (insns : List Insn) : Type 0 where
+pub record TokensAssemble (ts : List Lexeme) (insns : List Insn) : Type 0 where
   pub items : List Item
   pub parsed : Items ts items
   pub ranged : (i : ℕ) → IsLargeNegative ts i → ⊥
@@ -49,4 +50,4 @@ pub record AssembleTokens (ts : List Lexeme) (insns : List Insn) : Type 0 where
 pub record Assembles (text : List ℕ) (insns : List Insn) : Type 0 where
   pub tokens : List Token
   pub lexed : Lexes text tokens
-  pub assembled : AssembleTokens (lexemes_of text tokens) insns
+  pub assembled : TokensAssemble (lexemes_of text tokens) insns

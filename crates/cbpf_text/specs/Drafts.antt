@@ -61,7 +61,8 @@ pub record IsKept (statements : List Statement) (repeat : Option ℕ) (look : Na
   pub set : AreSet (labels_from 0 items ++ labels_of (length items) waiting) repeat look
   pub most : length items ≤ MAX_INSTRUCTIONS
 
--- what is kept of items, where there are at most MAX_INSTRUCTIONS; and of more the place of the one after these
+-- what is kept of items, where there are at most MAX_INSTRUCTIONS; where there are more, only the place of the mnemonic
+-- of the first that is too many
 abbrev pub IsDraft : Option ℕ → List Statement → Option ℕ → (Name → Option ℕ) → List Item → List Lexeme → Type 0
 IsDraft None statements repeat look items waiting = IsKept statements repeat look items waiting
 IsDraft (Some at) statements repeat look items waiting =

@@ -20,7 +20,7 @@ name_of t = word_bytes t.symbol
 abbrev pub labels_of : ℕ → List Lexeme → List (Lexeme × ℕ)
 labels_of index words = map (λ t. (t, index)) words
 
--- the labels that items set, in text order, each with its item's index; the first item has the index
+-- the labels that items set, in text order, each with its item's index; the first item's index is `index`
 abbrev pub labels_from : ℕ → List Item → List (Lexeme × ℕ)
 labels_from index [] = []
 labels_from index (item ∷ items) = labels_of index item.labels ++ labels_from (index + 1) items

@@ -17,8 +17,8 @@ abbrev pub OneAssembly : Type 0
 OneAssembly = (text : List ℕ) (xs ys : List Insn) → Assembles text xs → Assembles text ys → xs ≡ ys
 
 -- out of memory aside, a text is refused for one reason, at one line
-abbrev pub OneRefusal : Type 0
-OneRefusal = (text : List ℕ) (kind other : AsmKind) (line other_line : ℕ) → IsRefused text (At kind line)
+abbrev pub OneTextRefusal : Type 0
+OneTextRefusal = (text : List ℕ) (kind other : AsmKind) (line other_line : ℕ) → IsRefused text (At kind line)
     → IsRefused text (At other other_line) → (kind ≡ other) × (line ≡ other_line)
 
 -- no text that assembles is refused at a line

@@ -12,7 +12,7 @@ use Rattle.cbpf_syntax.specs.declared.table.Fields.{Fields}
 use Rattle.cbpf_syntax.specs.declared.table.Fields.TheVariants.{Constant, Goto, Branch, Swapped}
 use Rattle.cbpf_syntax.specs.Lexemes.{Lexeme, lexemes_of}
 use Rattle.cbpf_syntax.specs.Items.{Item, Items}
-use Rattle.cbpf_syntax.specs.Refusals.{ParseFault, IsAccepted, IsRefusedFor}
+use Rattle.cbpf_syntax.specs.Refusals.{ParseFault, IsAccepted, IsFirstRefusalAtPlace}
 use Rattle.cbpf_text.specs.declared.encode.TheConstants.{FARTHEST}
 use Rattle.cbpf_text.specs.declared.fault.AsmKind.{AsmKind}
 use Rattle.cbpf_text.specs.declared.fault.AsmKind.TheVariants as kinds
@@ -44,7 +44,7 @@ abbrev pub uses_of : ℕ → Item → List Use
 uses_of index item =
     map (λ t. record { index = index; target = t; conditional = is_conditional item.row.fields }) (targets_in item)
 
--- the uses of items of which the first has the index, in text order
+-- the uses of items, in text order; the first item's index is `index`
 abbrev pub uses_from : ℕ → List Item → List Use
 uses_from index [] = []
 uses_from index (item ∷ items) = uses_of index item ++ uses_from (index + 1) items
@@ -89,7 +89,8 @@ grammar_kind ParseFault.Unfinished = kinds.Unfinished
 
 -- why tokens are refused, and the place: the first refusal of the grammar, and where there is none that of the items
 pub data IsTokensFault (ts : List Lexeme) : AsmKind → ℕ → Type 0 where
-  of_grammar : (fault : ParseFault) (at : ℕ) → IsRefusedFor ts fault at → IsTokensFault ts (grammar_kind fault) at
+  of_grammar : (fault : ParseFault) (at : ℕ) → IsFirstRefusalAtPlace ts fault at
+      → IsTokensFault ts (grammar_kind fault) at
   of_items : (items : List Item) (kind : AsmKind) (at : ℕ) → Items ts items → IsAccepted ts
       → items_fault items ≡ Some (kind, at) → IsTokensFault ts kind at
 

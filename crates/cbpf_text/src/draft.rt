@@ -7,8 +7,8 @@ ghost use Rattle.cbpf_syntax.specs.Lexemes as lexemes;
 ghost use Rattle.cbpf_syntax.specs.Lexemes.{AreLexemes};
 ghost use Rattle.cbpf_syntax.specs.Items as items;
 ghost use Rattle.cbpf_syntax.specs.Items.{Items};
-ghost use Rattle.cbpf_syntax.specs.Refusals.{IsAccepted, IsStuckAt};
-ghost use Rattle.cbpf_syntax.specs.Ahead.{IsReading, StartsWithWord};
+ghost use Rattle.cbpf_syntax.specs.Refusals.{IsAccepted, ItemsStuckAt};
+ghost use Rattle.cbpf_syntax.specs.Ahead.{HasTaken, StartsWithWord};
 ghost use Rattle.cbpf_syntax.specs.Views.{lexeme_of, row_of};
 ghost use Rattle.cbpf_text.specs.Drafts.{IsStatement, IsDraft, AreTargets, AreSet, same_name};
 ghost use Rattle.cbpf_text.specs.Refusals.{IsRefused};
@@ -157,8 +157,9 @@ fn fault_here<A: Allocator>(text: &[u8], reader: &mut Reader<'_, A>, n: usize) -
     requires within { n ≤ length reader.old.tokens }
     requires end { n ≡ length reader.old.tokens → reader.old.ended ≡ true }
     requires word { 0 < n → StartsWithWord (map lexeme_of reader.old.tokens) }
-    ensures { (taken : List lexemes.Lexeme) → IsReading taken reader.old →
-        ((ts : List lexemes.Lexeme) → AreLexemes text.now (taken ++ ts) → IsStuckAt (taken ++ ts) (length taken + n)) →
+    ensures { (taken : List lexemes.Lexeme) → HasTaken taken reader.old →
+        ((ts : List lexemes.Lexeme) → AreLexemes text.now (taken ++ ts) →
+        ItemsStuckAt (taken ++ ts) (length taken + n)) →
         IsRefused text.now result }
 {
     let refused = reader.fault(n);
@@ -176,7 +177,7 @@ fn read_items<'a, A: Allocator + Copy>(
     draft: &mut Draft<'a, A>,
 ) -> Result<(), AsmFault>
     requires text { reader.old.text ≡ text.now }
-    requires reading { IsReading [] reader.old }
+    requires reading { HasTaken [] reader.old }
     requires statements { draft.old.statements.items ≡ [] }
     requires excess { draft.old.excess ≡ None }
     requires labels { AreSet [] draft.old.labels.repeat (λ k. get same_name draft.old.labels.table k) }

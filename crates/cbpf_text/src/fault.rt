@@ -75,7 +75,8 @@ pub enum AsmFault {
     /// The allocator refused.
     #[error("out of memory")]
     Memory,
-    /// What is wrong, and the line of the token that shows it, counted from 1.
+    /// What is wrong, and the line of the piece or token that shows it, counted from 1; line 1 for
+    /// A11.
     #[error("line {1}: {0}")]
     At(AsmKind, u64),
 }

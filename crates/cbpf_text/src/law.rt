@@ -1,7 +1,7 @@
 //! Laws of the definitions, which hold whatever a program does.
 
 ghost use Rattle.std.specs.Prelude.{◌≡◌};
-ghost use Rattle.cbpf_text.specs.Laws.{OneAssembly, OneRefusal, NeverBoth, EachAnswered};
+ghost use Rattle.cbpf_text.specs.Laws.{OneAssembly, OneTextRefusal, NeverBoth, EachAnswered};
 ghost use Rattle.cbpf_text.specs.Laws.{ListingAssembles, ListingAnswers};
 ghost use Rattle.cbpf_text.specs.declared.encode.TheConstants.{FARTHEST};
 
@@ -9,7 +9,7 @@ ghost use Rattle.cbpf_text.specs.declared.encode.TheConstants.{FARTHEST};
 /// and never both. Out of memory is no such reason. A conditional jump goes over 255 instructions at most.
 pub fn one_assembly()
     ensures list { OneAssembly }
-    ensures refusal { OneRefusal }
+    ensures refusal { OneTextRefusal }
     ensures never_both { NeverBoth }
     ensures answered { EachAnswered }
     ensures farthest { FARTHEST ≡ 255 }

@@ -1,6 +1,6 @@
 use Rattle.std.proofs.Common.{subst}
 use Rattle.std.proofs.lemmas.Result.{IfOk-weaker, IfErr-weaker}
-use Rattle.cbpf_text.specs.Assembled.{AssembleTokens}
+use Rattle.cbpf_text.specs.Assembled.{TokensAssemble}
 use Rattle.cbpf_text.proofs.FaultParts.{tokens_assembled, items_refused}
 use Rattle.cbpf_text.proofs.Forms.{items_forms}
 use Rattle.cbpf_text.proofs.assembler.assemble.Goals as goal
@@ -11,7 +11,7 @@ returns-clause-assembled g c =
     IfOk-weaker c.encode_draft.result _ _ (λ v e. record {
       tokens = d.2.tokens;
       lexed = d.2.lexed;
-      assembled = subst (λ ts. AssembleTokens ts v.items) d.2.are
+      assembled = subst (λ ts. TokensAssemble ts v.items) d.2.are
           (tokens_assembled d.0 d.1 v.items d.3 d.4 e.0 e.1);
     })
     (c.encode_draft.ensures.encoded d.1 d.5 (items_forms d.0 d.1 d.3))

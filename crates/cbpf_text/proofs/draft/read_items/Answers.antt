@@ -9,7 +9,7 @@ use Rattle.cbpf_text.specs.declared.name.Name.{Name}
 use Rattle.cbpf_text.specs.Drafts.{same_name, IsDraft}
 use Rattle.cbpf_syntax.specs.Items.{Item, Items}
 use Rattle.cbpf_syntax.specs.Lexemes.{Lexeme, AreLexemes}
-use Rattle.cbpf_syntax.specs.Ahead.{Ahead, IsReading, IsStepOf, IsFirstLarge, MayRemain, step_len}
+use Rattle.cbpf_syntax.specs.Ahead.{Ahead, HasTaken, IsStepOf, IsFirstLarge, MayRemain, step_len}
 use Rattle.cbpf_syntax.specs.Views.{lexeme_of}
 use Rattle.cbpf_syntax.proofs.Taking.{remains}
 use Rattle.cbpf_syntax.proofs.FirstRefusal.{items_accepted}
@@ -35,7 +35,7 @@ returns-in-Err-clause-refused g c =
 
 -- the state after a step, and what the step says of the tokens
 abbrev Stepped : List ℕ → Ahead → Option ℕ → List Statement → Option ℕ → (Name → Option ℕ) → Bool → Option Step → Type 0
-Stepped text a o ss rep look waits next = (taken : List Lexeme) × IsReading taken a × (a.text ≡ text)
+Stepped text a o ss rep look waits next = (taken : List Lexeme) × HasTaken taken a × (a.text ≡ text)
     × IsState text taken o ss rep look waits × ((ts : List Lexeme) → MayRemain a ts → IsStepOf ts next)
 
 stepped : (g : Over) (c : In-Ok g) → Stepped c.args.text.now c.step.new.self c.loop-next.draft.excess

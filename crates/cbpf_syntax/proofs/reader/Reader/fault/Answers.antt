@@ -3,7 +3,7 @@ use Rattle.std.proofs.Common.{length, map, drop, take, List, arith, append-nil, 
 use Rattle.std.proofs.lemmas.List.{drop_all, drop_more}
 use Rattle.std.specs.Prelude.{option_map, slice_get}
 use Rattle.cbpf_syntax.specs.Ahead.{IsFirstLarge}
-use Rattle.cbpf_syntax.specs.Refusals.{IsStuckAt, IsPlaceOf, IsRefusedFor}
+use Rattle.cbpf_syntax.specs.Refusals.{ItemsStuckAt, IsPlaceOf, IsFirstRefusalAtPlace}
 use Rattle.cbpf_syntax.specs.Refusals.ParseFault.{Misplaced, LargeNegative, Unfinished}
 use Rattle.cbpf_syntax.specs.Lexemes.{Lexeme}
 use Rattle.cbpf_syntax.specs.declared.lexeme.Lexeme as declared_lexeme
@@ -25,7 +25,7 @@ before taken ahead n = taken ++ map lexeme_of (take n ahead)
 -- Some tokens were taken, others stand ahead, of which n are before the fault, and a rest follows.
 module _ (taken : List Lexeme) (ahead : List declared_lexeme.Lexeme) (n : ℕ) (within : n ≤ length ahead)
     (rest ts : List Lexeme) (e : ts ≡ map lexeme_of ahead ++ rest)
-    (stuck : IsStuckAt (taken ++ ts) (length taken + n)) where
+    (stuck : ItemsStuckAt (taken ++ ts) (length taken + n)) where
   abbrev after : List Lexeme
   after = map lexeme_of (drop n ahead) ++ rest
 
@@ -34,17 +34,18 @@ module _ (taken : List Lexeme) (ahead : List declared_lexeme.Lexeme) (n : ℕ) (
       ∙ (ap (λ us. us ++ rest) (sym (taken_rest taken ahead n within))
       ∙ append_assoc (before taken ahead n) (map lexeme_of (drop n ahead)) rest))
 
-  here : IsStuckAt (before taken ahead n ++ after) (length (before taken ahead n))
+  here : ItemsStuckAt (before taken ahead n ++ after) (length (before taken ahead n))
   here =
       let count : length taken + n ≡ length (before taken ahead n) =
       omega (arith, length-append taken (map lexeme_of (take n ahead)), taken_size taken ahead n within) in
-      subst (λ i. IsStuckAt (before taken ahead n ++ after) i) count (rw parts at stuck)
+      subst (λ i. ItemsStuckAt (before taken ahead n ++ after) i) count (rw parts at stuck)
 
-  large : (at : ℕ) → IsFirstLarge (before taken ahead n) (Some at) → IsRefusedFor (taken ++ ts) LargeNegative at
+  large : (at : ℕ) → IsFirstLarge (before taken ahead n) (Some at)
+      → IsFirstRefusalAtPlace (taken ++ ts) LargeNegative at
   large at h = rw parts (refused_large (before taken ahead n) after at here h)
 
   misplaced : (d : declared_lexeme.Lexeme) → n < length ahead → IsFirstLarge (before taken ahead n) None
-      → IsRefusedFor (taken ++ ts) Misplaced (get_or ahead n d).at
+      → IsFirstRefusalAtPlace (taken ++ ts) Misplaced (get_or ahead n d).at
   misplaced d more none =
       let place : IsPlaceOf (map lexeme_of (drop n ahead) ++ rest) 0 (get_or ahead n d).at =
       ap (λ us. option_map (λ (t : Lexeme). t.at) (slice_get (map lexeme_of us ++ rest) 0)) (drop_more ahead n d more) in
@@ -52,7 +53,7 @@ module _ (taken : List Lexeme) (ahead : List declared_lexeme.Lexeme) (n : ℕ) (
 
   unfinished : (at : ℕ) → n ≡ length ahead → rest ≡ [] → IsFirstLarge (before taken ahead n) None
       → (0 < length (before taken ahead n) → IsPlaceOf (before taken ahead n) (length (before taken ahead n) - 1) at)
-      → IsRefusedFor (taken ++ ts) Unfinished at
+      → IsFirstRefusalAtPlace (taken ++ ts) Unfinished at
   unfinished at all end none place =
       let past : length ahead ≤ n = omega (arith, all) in
       let nothing : map lexeme_of (drop n ahead) ++ rest ≡ [] = rw (drop_all n ahead past, end) refl in

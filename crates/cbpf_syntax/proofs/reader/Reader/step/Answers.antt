@@ -2,7 +2,7 @@ use Rattle.std.proofs.Common.{ℕ, ◌∙◌, sym, ap, subst, map, arith, List}
 use Rattle.std.proofs.lemmas.Result.{err_from_is_err_and}
 use Rattle.std.proofs.lemmas.List.{length-map}
 use Rattle.cbpf_syntax.specs.Tokens.{IsLexFault}
-use Rattle.cbpf_syntax.specs.Ahead.{Ahead, IsReading, IsStepOf}
+use Rattle.cbpf_syntax.specs.Ahead.{Ahead, HasTaken, IsStepOf}
 use Rattle.cbpf_syntax.specs.Views.{lexeme_of}
 use Rattle.cbpf_syntax.proofs.Taking.{step_more, step_all}
 use Rattle.cbpf_syntax.proofs.reader.Reader.step.Goals.{then-self-via-then-self}
@@ -20,7 +20,7 @@ pub returns-in_err-fill-clause-reads_on : goal.returns-in_err-fill-clause-reads_
 returns-in_err-fill-clause-reads_on g c =
     let p = err_from_is_err_and c.from_residual.result c.from_residual.ensures.1 in
     let inv = c.loop-self.invariant in
-    rw p.1 (λ n r. subst (λ (a : Ahead). IsReading n a) (sym c.in_err-fill.ensures.same) (inv.reading n r))
+    rw p.1 (λ n r. subst (λ (a : Ahead). HasTaken n a) (sym c.in_err-fill.ensures.same) (inv.reading n r))
 
 pub loop-self-preserved : goal.loop-self-preserved
 loop-self-preserved g c =
