@@ -11,7 +11,7 @@ use Rattle.cbpf_code.specs.ControlFlow.{InsnAt}
 use Rattle.cbpf_code.specs.Faults.{HasFault, IsEarlier, rank, NamesNoSlot, DividesByZero, ShiftsTooFar, JumpsOutside}
 use Rattle.cbpf_code.specs.Faults.{LoadsUnknownExtension}
 
--- an instruction of a known code, at i of n, has this fault of its own
+-- an instruction of a known code, at i of n, has a fault of this kind by itself, whatever index the fault names
 abbrev pub InsnHasFault : Op → Insn → ℕ → ℕ → CheckFault → Type 0
 InsnHasFault op insn i n (NoSlot at) = NamesNoSlot op insn
 InsnHasFault op insn i n (ZeroDivisor at) = DividesByZero op insn

@@ -1,5 +1,6 @@
 -- The tokens of a text: its longest runs of digits, and its single bytes that are neither digit nor blank.
--- Word text, as `tcpdump -ddd` prints it, is made of them.
+-- Word text, as the kernel tree's `bpf_asm` prints it, is made of them; `tcpdump -ddd` prints a newline for each of its
+-- commas.
 use Rattle.std.specs.Prelude.{ℕ, suc, ◌+◌, ◌-◌, ◌*◌, Bool, true, false, ◌&&◌, ◌||◌, ◌==◌, nat_lt, if◌then◌else◌, List}
 use Rattle.std.specs.Prelude.{[], ◌∷◌, drop, fold}
 use Rattle.std.specs.List.{take_while}

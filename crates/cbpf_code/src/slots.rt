@@ -17,7 +17,8 @@ use crate::opcode::{Op, op_of};
 /// list is sound.
 ///
 /// Jumps only go forward, so one pass is enough: each instruction has a mask of the slots that some
-/// path to it leaves unwritten. No path gives an empty mask, as do paths that write all slots.
+/// path to it leaves unwritten. The mask is empty where no path leads to the instruction, and where each path writes all
+/// slots.
 pub(crate) fn path_fault(list: &[Insn]) -> Option<CheckFault>
     requires { IsWellFormed list.now }
     ensures { MatchOption result (IsSound list.now) (λ e. FirstFault list.now e) }

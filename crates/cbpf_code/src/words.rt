@@ -1,4 +1,5 @@
-//! Reads word text, as `tcpdump -ddd` and `bpf_asm` print it.
+//! Reads word text, as `bpf_asm` prints it. What `tcpdump -ddd` prints has newlines for the commas, and is refused
+//! with N5.
 
 ghost use Rattle.std.specs.Prelude.{◌≡◌, ◌<◌, ◌≤◌, ◌^◌, ◌↔◌, ℕ, length, [], ◌∷◌, IsTrue, IfOk, MatchResult, None};
 ghost use Rattle.std.specs.Prelude.{List, ◌≢◌, ◌⊎◌, Some};

@@ -266,6 +266,8 @@ without_breakpoints m = record m { breakpoints = [] }
 
 -- ---- turns
 
+-- the turns of an answer from the view's place: to the end where it finished, else to the place where it leaves the
+-- session
 abbrev pub turns_in : View → Machine → List Record → RunReply × View → ℕ
 turns_in m machine capture (Finished n, after) = turns_to_end machine capture m.place
 turns_in m machine capture (_, after) = turns_between machine capture m.place after.place

@@ -69,7 +69,8 @@ passed w outcome = record w {
   counts = with_outcome w.counts outcome;
 }
 
--- the cursor of a packet that was followed, with the state that this led to
+-- a cursor that already has the state to which its packet was followed: its place goes on by so many steps; or, at the
+-- packet's end, past the packet
 abbrev pub followed : Cursor → Followed → Cursor
 followed w (followed_to.Paused n) = record w { place = record { packet = w.place.packet; step = w.place.step + n } }
 followed w (followed_to.Ended o) = passed w o

@@ -1,4 +1,5 @@
--- What the view of `Stops`, and the commands of a session, go over.
+-- The machine, the records and the breakpoints of what is loaded, over which the view of `Stops` and a session's commands
+-- go.
 use Rattle.std.specs.Prelude.{List}
 use Rattle.cbpf_machine.specs.Machine.{Machine, machine_of}
 use Rattle.pcap_classic.specs.Records.{Record}

@@ -1,5 +1,6 @@
 -- The scratch memory in a dump: a line for each longest run of neighbouring slots of equal value
--- (the kernel's `bpf_dbg` shows runs of zeros so; this layout is this project's own).
+-- (the kernel's `bpf_dbg` has such a line where all slots are 0, and else one for each slot that isn't; this layout is
+-- this project's own).
 use Rattle.std.specs.Prelude.{ℕ, ◌+◌, ◌-◌, Bool, not, ◌==◌, ◌||◌, if◌then◌else◌, List, [], ◌∷◌, length, drop, slice_index}
 use Rattle.std.specs.Prelude.{decimal, codes}
 use Rattle.std.specs.List.{prefix_len}

@@ -16,8 +16,8 @@ abbrev pub ReadsOn : List ℕ → ℕ → ℕ → List Lexeme → List Lexeme �
 ReadsOn text at to old new =
     (taken : List Lexeme) → AreLexemesTo text at (taken ++ old) → AreLexemesTo text to (taken ++ new)
 
--- a text whose tokens were read to a place, with those that were not taken; whether its end was read; the place of the
--- last one that was taken, and of the first literal of them that is too large
+-- a text whose tokens were read to a place, with those that were not taken; whether its end was read; of those that were
+-- taken, the place of the last one, and that of the first number too large after a `-`, if there is one
 pub record Ahead : Type 0 where
   pub text : List ℕ
   pub to : ℕ

@@ -9,7 +9,7 @@ pub enum Class {
     Mark(u8),
     /// A number, which is the instruction's literal.
     Literal,
-    /// A number after a `-`, which is the literal's size.
+    /// A number after a `-`, which is the literal's absolute value.
     Negated,
     /// A number of this value, in any spelling.
     Exactly(u32),

@@ -6,7 +6,7 @@ ghost use Rattle.cbpf_syntax.specs.Views.{symbol_of, lexeme_of};
 
 use crate::lexeme::{Lexeme, Symbol};
 
-/// The greatest size of a negative literal.
+/// The greatest absolute value of a negative literal.
 const MOST_NEGATIVE: u32 = 1 << 31;
 
 /// Whether these are a `-` and a number that is too large.

@@ -290,8 +290,9 @@ impl<'a, A: Allocator> Reader<'a, A> {
         self.large
     }
 
-    /// The first refusal where the tokens go on so far and no farther. Where `n` isn't 0, the first of
-    /// the `n` tokens is a word, so that no number among them stands after a `-` that was taken before.
+    /// The first refusal, where the first `n` tokens ahead go on towards items. With the next one they don't, or there
+    /// is none and they are no items. Where `n` isn't 0, the first of the `n` tokens is a word, so that no number among
+    /// them stands after a `-` that was taken before.
     pub fn fault(&self, n: usize) -> SyntaxFault
         requires within { n ≤ length self.now.tokens }
         requires end { n ≡ length self.now.tokens → self.now.ended ≡ true }

@@ -80,5 +80,6 @@ savefile_from header n place bytes =
     let after = contents_from header.magic.order n place bytes in
     record { nanos = header.magic.nanos; link = header.link; records = after.records; ending = after.ending }
 
+-- the capture of a whole file, by its header
 abbrev pub savefile_with : FileHeader → List ℕ → Savefile
 savefile_with header file = savefile_from header 1 FILE_HEADER (drop FILE_HEADER file)
