@@ -74,7 +74,7 @@ reason_text Outside = codes "outside the packet"
 reason_text ZeroDivisor = codes "division by 0"
 reason_text (Unknown e) = ext_name e ++ codes " has no value"
 
--- the same after an instruction; of a return the instruction says it
+-- the same after other words; nothing of a return, whose value only the text of a `ret #k` shows
 abbrev pub reason_after : End → List ℕ
 reason_after (Returned v) = []
 reason_after Outside = codes ", outside the packet"

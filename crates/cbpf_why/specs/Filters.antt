@@ -35,21 +35,23 @@ Reads text list = MatchBool (are_words text) (Spells (word_text_of text) list) (
 abbrev pub IsFilter : List ℕ → List Insn → Type 0
 IsFilter text list = Reads text list × IsSound list
 
--- why a text is no word text, or that there was no memory
+-- why a text is no program; `Memory` says nothing of the text
+abbrev pub IsNoFilter : List ℕ → FilterFault → Type 0
+IsNoFilter text (Source fault) = (are_words text ≡ false) × (IsRefused text fault × (fault ≢ asm.Memory))
+IsNoFilter text (Words fault) = (are_words text ≡ true) × (Refused (word_text_of text) fault × (fault ≢ word.Memory))
+IsNoFilter text (Check fault) = (list : List Insn) × Reads text list × FirstFault list fault
+IsNoFilter text Memory = Unit {0}
+
+-- ---- the two forms by themselves
+
+-- why a text is no word text; `Memory` says nothing of the text
 abbrev pub IsWordsFault : List ℕ → FilterFault → Type 0
 IsWordsFault text (Words fault) = Refused text fault × (fault ≢ word.Memory)
 IsWordsFault text Memory = Unit {0}
 IsWordsFault text _ = ⊥
 
--- why a text is no source, or that there was no memory
+-- why a text is no source; `Memory` says nothing of the text
 abbrev pub IsSourceFault : List ℕ → FilterFault → Type 0
 IsSourceFault text (Source fault) = IsRefused text fault × (fault ≢ asm.Memory)
 IsSourceFault text Memory = Unit {0}
 IsSourceFault text _ = ⊥
-
--- why a text is no program
-abbrev pub IsNoFilter : List ℕ → FilterFault → Type 0
-IsNoFilter text (Source fault) = (are_words text ≡ false) × IsSourceFault text (Source fault)
-IsNoFilter text (Words fault) = (are_words text ≡ true) × IsWordsFault (word_text_of text) (Words fault)
-IsNoFilter text (Check fault) = (list : List Insn) × Reads text list × FirstFault list fault
-IsNoFilter text Memory = Unit {0}

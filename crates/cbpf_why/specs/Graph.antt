@@ -88,6 +88,18 @@ edge from to word count =
     concat (node from ∷ codes " -> " ∷ node to ∷ codes " [label=\"" ∷ word ∷ decimal count ∷ codes "\""
     ∷ grey_where_none count ∷ codes "]\n" ∷ [])
 
+-- what is counted of an instruction: its runs, those of its block, and its three groups
+abbrev pub facts_at : Machine → List Record → List Ended → ℕ → Facts
+facts_at m records ends i =
+    record {
+      runs = record { executed = executed m records i; taken = taken m records i };
+      block_runs = executed m records (block_of m.list i);
+      passed = group_kept (group ends i Pass);
+      failed = group_kept (group ends i Fail);
+      unknown = group_kept (group ends i Unknown);
+    }
+
+-- how many packets ended at an instruction
 abbrev pub ended_in : Facts → ℕ
 ended_in f = f.passed.count + f.failed.count + f.unknown.count
 
@@ -112,16 +124,14 @@ block_head block = concat (node block ∷ codes " [label=<" ∷ [])
 abbrev pub block_end : ℕ → List ℕ
 block_end count = concat (codes ">" ∷ grey_where_none count ∷ codes "]\n" ∷ [])
 
-abbrev pub ways_out : ℕ → List Insn → ℕ → Facts → List ℕ
-ways_out block list i f = block_end f.block_runs ++ edges_of block i f (slice_get list i)
-
--- an instruction of a block, with what follows where it is the last one
-abbrev pub body : ℕ → Bool → List Insn → ℕ → Facts → List ℕ
-body block last list i f = block_line list i f.runs.executed ++ (if last then ways_out block list i f else [])
-
--- and with what stands before it where it is the first one
-abbrev pub part_in : ℕ → Bool → List Insn → ℕ → Facts → List ℕ
-part_in block last list i f = (if block == i then block_head block else []) ++ body block last list i f
+-- an instruction's line; before it the begin of its block, where it is the first one there; and after it the end of the
+-- block and the ways from it, where it is the last one
+abbrev pub block_part : List Insn → ℕ → Facts → List ℕ
+block_part list i f =
+    let block = block_of list i in
+    (if block == i then block_head block else [])
+    ++ (block_line list i f.runs.executed
+    ++ (if is_last list i then block_end f.block_runs ++ edges_of block i f (slice_get list i) else []))
 
 abbrev pub colour : Verdict → List ℕ
 colour Pass = codes "palegreen"
@@ -131,37 +141,26 @@ colour Unknown = codes "khaki"
 abbrev pub end_node : Ended → List ℕ
 end_node e = verdict_in e ++ decimal e.pc
 
--- packets that ended at an instruction, after the block that they came from
+-- the oval of the packets of which `e` is the first, and the edge to it from their block, with how many they are
 abbrev pub end_edge : ℕ → Ended → ℕ → List ℕ
 end_edge block e count =
     concat (end_node e ∷ codes " [label=\"" ∷ verdict_in e ∷ reason_after e.reason ∷ codes "\" shape=oval style=filled fillcolor="
     ∷ colour (verdict_of e.reason) ∷ codes "]\n" ∷ node block ∷ codes " -> " ∷ end_node e ∷ codes " [label=\"" ∷ decimal count
     ∷ codes "\"]\n" ∷ [])
 
-abbrev pub first_edge : ℕ → ℕ → Option Ended → List ℕ
-first_edge block count None = []
-first_edge block count (Some e) = end_edge block e count
+-- by how many packets a group has, and its first one
+abbrev pub group_end_by : ℕ → ℕ → Option Ended → List ℕ
+group_end_by block count None = []
+group_end_by block count (Some e) = end_edge block e count
 
-abbrev pub end_edges : ℕ → Group → List ℕ
-end_edges block g = first_edge block g.count g.first
+-- the oval and the edge of a group, where it has packets
+abbrev pub group_end : ℕ → Group → List ℕ
+group_end block g = group_end_by block g.count g.first
 
 -- ---- the graph
 
-abbrev pub facts_at : Machine → List Record → List Ended → ℕ → Facts
-facts_at m records ends i =
-    record {
-      runs = record { executed = executed m records i; taken = taken m records i };
-      block_runs = executed m records (block_of m.list i);
-      passed = group_kept (group ends i Pass);
-      failed = group_kept (group ends i Fail);
-      unknown = group_kept (group ends i Unknown);
-    }
-
-abbrev pub block_part : List Insn → ℕ → Facts → List ℕ
-block_part list i f = part_in (block_of list i) (is_last list i) list i f
-
 abbrev pub end_part : ℕ → Facts → List ℕ
-end_part block f = end_edges block f.passed ++ (end_edges block f.failed ++ end_edges block f.unknown)
+end_part block f = group_end block f.passed ++ (group_end block f.failed ++ group_end block f.unknown)
 
 abbrev pub graph_head : List ℕ
 graph_head = codes "digraph filter {\nnode [shape=box fontname=monospace]\n"

@@ -19,7 +19,8 @@ is_in_group i v e = (e.pc == i) && is_verdict v (verdict_of e.reason)
 abbrev pub group : List Ended → ℕ → Verdict → List Ended
 group ends i v = filter (is_in_group i v) ends
 
--- by how many there are, and the first one
+-- the line of a group, by how many packets it has and its first one. The instruction and the verdict are those of each
+-- packet of the group; the reason is the first one's
 abbrev pub group_line : List Insn → ℕ → Ended → List ℕ
 group_line list count first =
     concat (verdict_in first ∷ codes " " ∷ decimal count ∷ codes " at " ∷ line_text list first.pc
@@ -33,13 +34,14 @@ group_kept es = record { count = length es; first = slice_get es 0 }
 abbrev pub with_one : Group → Ended → Group
 with_one g e = record { count = g.count + 1; first = Some (unwrap_or g.first e) }
 
-abbrev pub first_text : List Insn → ℕ → Option Ended → List ℕ
-first_text list count None = []
-first_text list count (Some first) = group_line list count first
+-- by how many packets a group has, and its first one
+abbrev pub group_text_by : List Insn → ℕ → Option Ended → List ℕ
+group_text_by list count None = []
+group_text_by list count (Some first) = group_line list count first
 
 -- the line of a group, where it has packets
 abbrev pub group_text : List Insn → Group → List ℕ
-group_text list g = first_text list g.count g.first
+group_text list g = group_text_by list g.count g.first
 
 -- at an instruction, those that passed before those that failed, and these before the others
 abbrev pub groups_at : List Insn → List Ended → ℕ → List ℕ
@@ -60,7 +62,7 @@ totals ends = record { passes = count_of ends Pass; fails = count_of ends Fail; 
 
 -- ---- what is kept of all groups
 
--- by instruction: those that passed, failed, and asked for an extension without a value; and how many there are
+-- for each verdict a list with a group for each instruction; and the totals
 pub record AllKept : Type 0 where
   pub passed : List Group
   pub failed : List Group

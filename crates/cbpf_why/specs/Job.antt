@@ -90,8 +90,8 @@ IsOver old new = IfSome old (λ _. IfSome new.left (λ s. (s.records ≡ []) × 
 abbrev pub EndsBefore : PacketRange → ℕ → Reading → Reading → Type 0
 EndsBefore range after old new = after < range.last → IsOver old.left new
 
--- packets of a range were taken, after those records and as many packets as before: so many packets were read then, and
--- more records were taken
+-- of a range: `before` packets were read and `records` taken; now `after` packets are read, and `more` was taken too.
+-- `w` and `v` are what the writer held then and holds now
 pub record Going {A P : Type 0} (q : Question P) (first : ℕ) (records : List Record) (before : ℕ) (old new : Option Savefile)
     (c : Counted A) (w v : Option (List ℕ)) (after : ℕ) : Type 0 where
   pub more : List Record
@@ -100,7 +100,7 @@ pub record Going {A P : Type 0} (q : Question P) (first : ℕ) (records : List R
   pub reads : TookFromKnown first old new before after more
   pub wrote : Appended w v (packets_text q.report (machine_in q) more)
 
--- likewise all packets of a range
+-- the same of all packets of a range
 pub record Ranged {A P : Type 0} (q : Question P) (range : PacketRange) (records : List Record) (before : ℕ)
     (old new : Reading) (c : Counted A) (w v : Option (List ℕ)) (after : ℕ) : Type 0 where
   pub going : Going q range.first records before old.left new.left c w v after

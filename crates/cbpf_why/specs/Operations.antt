@@ -9,7 +9,7 @@ use Rattle.cbpf_code.specs.declared.opcode.Op.TheVariants.{Ja, Jump}
 abbrev pub op_at : List Insn → ℕ → Option Op
 op_at list i = option_and_then (λ insn. op_of insn.code) (slice_get list i)
 
--- one of a kind
+-- instruction `i` has an operation of this kind
 abbrev pub is_op_at : (Op → Bool) → List Insn → ℕ → Bool
 is_op_at kind list i = option_map_or kind (op_at list i) false
 

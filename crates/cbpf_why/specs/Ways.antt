@@ -19,7 +19,7 @@ use Rattle.cbpf_why.specs.declared.ended.Verdict.TheVariants.{Pass, Fail, Unknow
 use Rattle.cbpf_why.specs.Ends.{ended, verdict_in, verdict_of, reason_after}
 use Rattle.cbpf_why.specs.Operations.{is_op_at, is_jump}
 
--- a register in decimal and in hexadecimal
+-- a register in decimal, and in hexadecimal without padding
 abbrev pub register_text : List ℕ → ℕ → List ℕ
 register_text name v = concat (name ∷ codes " " ∷ decimal v ∷ codes " (0x" ∷ hex 1 v ∷ codes ")" ∷ [])
 

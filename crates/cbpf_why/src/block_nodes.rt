@@ -1,6 +1,6 @@
 //! The boxes of a graph, which are a program's basic blocks, and the ways between them.
 
-ghost use Rattle.std.specs.Prelude.{◌≡◌, ◌<◌, ◌≤◌, ◌+◌, ◌++◌, ◌-◌, codes, length};
+ghost use Rattle.std.specs.Prelude.{◌≡◌, ◌<◌, ◌≤◌, ◌+◌, ◌++◌, ◌-◌, ◌==◌, if◌then◌else◌, [], codes, length, slice_get};
 ghost use Rattle.cbpf_code.specs.Opcode.{op_of};
 ghost use Rattle.cbpf_code.specs.Writing.{Wrote};
 ghost use Rattle.cbpf_code.specs.declared.writing.TheConstants.{LINE_SIZE};
@@ -195,7 +195,8 @@ fn write_ways_out<W: Write, P: Allocator>(
     facts: &Facts,
 ) -> Result<(), WriteFault>
     requires { i < length p.now }
-    ensures { Wrote (W.contents w.old) (W.contents w.new) result (spec.ways_out block p.now i facts.now) }
+    ensures { Wrote (W.contents w.old) (W.contents w.new) result
+        (spec.block_end facts.now.block_runs ++ spec.edges_of block i facts.now (slice_get p.now i)) }
 {
     write_closing(w, facts.block_runs)?;
     write_edges(w, u64::from(block), i, p.at_index(i), facts)
@@ -212,7 +213,9 @@ fn write_body<W: Write, P: Allocator>(
     facts: &Facts,
 ) -> Result<(), WriteFault>
     requires { i < length p.now }
-    ensures { Wrote (W.contents w.old) (W.contents w.new) result (spec.body block is_last p.now i facts.now) }
+    ensures { Wrote (W.contents w.old) (W.contents w.new) result (spec.block_line p.now i facts.now.runs.executed
+        ++ (if is_last then spec.block_end facts.now.block_runs
+        ++ spec.edges_of block i facts.now (slice_get p.now i) else [])) }
 {
     write_block_line(w, p, i, facts.runs.executed)?;
     if is_last {
@@ -233,7 +236,10 @@ pub(crate) fn write_block_part<W: Write, P: Allocator>(
     facts: &Facts,
 ) -> Result<(), WriteFault>
     requires { i < length p.now }
-    ensures { Wrote (W.contents w.old) (W.contents w.new) result (spec.part_in block is_last p.now i facts.now) }
+    ensures { Wrote (W.contents w.old) (W.contents w.new) result
+        ((if block == i then spec.block_head block else []) ++ (spec.block_line p.now i facts.now.runs.executed
+        ++ (if is_last then spec.block_end facts.now.block_runs
+        ++ spec.edges_of block i facts.now (slice_get p.now i) else []))) }
 {
     if block != i {
         return write_body(w, p, block, i, is_last, facts);

@@ -62,7 +62,7 @@ fn write_end_edge<W: Write>(
 /// Writes the same of a group, where it has packets.
 #[tactic(auto, using(cbpf_code::proofs::WrittenLemmas::three, cbpf_code::proofs::WrittenLemmas::steps))]
 fn write_end<W: Write>(w: &mut W, block: u32, group: Group) -> Result<(), WriteFault>
-    ensures { Wrote (W.contents w.old) (W.contents w.new) result (spec.end_edges block group) }
+    ensures { Wrote (W.contents w.old) (W.contents w.new) result (spec.group_end block group) }
 {
     match group.first {
         Some(first) => write_end_edge(w, block, group.count, first),

@@ -20,7 +20,7 @@ use std::io::Write;
 
 /// What is known of a program that ran over packets.
 #[derive(Drop)]
-pub(crate) struct Counted<'a, A: Allocator, P: Allocator> {
+pub(crate) struct CountedProgram<'a, A: Allocator, P: Allocator> {
     pub(crate) program: &'a Program<P>,
     /// How often each instruction ran.
     pub(crate) runs: &'a [Runs],
@@ -40,7 +40,7 @@ pub(crate) struct Facts {
     pub(crate) unknown: Group,
 }
 
-impl<A: Allocator + Copy, P: Allocator> Counted<'_, A, P> {
+impl<A: Allocator + Copy, P: Allocator> CountedProgram<'_, A, P> {
     /// The block of an instruction, where that of the one before is known.
     fn block_at(&self, i: u32, before: u32) -> u32
         requires fits { Fits self.now }
@@ -83,7 +83,7 @@ impl<A: Allocator + Copy, P: Allocator> Counted<'_, A, P> {
 /// Writes the blocks, and the ways between them.
 fn write_blocks<W: Write, A: Allocator + Copy, P: Allocator>(
     w: &mut W,
-    counted: &Counted<'_, A, P>,
+    counted: &CountedProgram<'_, A, P>,
 ) -> Result<(), WriteFault>
     requires { Fits counted.now }
     ensures { (m : Machine) (records : List Record) → IsCounted counted.now m records
@@ -103,7 +103,7 @@ fn write_blocks<W: Write, A: Allocator + Copy, P: Allocator>(
 /// Writes how packets ended.
 fn write_ends<W: Write, A: Allocator + Copy, P: Allocator>(
     w: &mut W,
-    counted: &Counted<'_, A, P>,
+    counted: &CountedProgram<'_, A, P>,
 ) -> Result<(), WriteFault>
     requires { Fits counted.now }
     ensures { (m : Machine) (records : List Record) → IsCounted counted.now m records
@@ -122,7 +122,7 @@ fn write_ends<W: Write, A: Allocator + Copy, P: Allocator>(
 /// Writes the graph.
 pub(crate) fn write_graph<W: Write, A: Allocator + Copy, P: Allocator>(
     w: &mut W,
-    counted: &Counted<'_, A, P>,
+    counted: &CountedProgram<'_, A, P>,
 ) -> Result<(), WriteFault>
     requires { Fits counted.now }
     ensures { (m : Machine) (records : List Record) → IsCounted counted.now m records

@@ -14,7 +14,7 @@ use std::alloc::{AllocError, Allocator};
 use std::io::Write;
 use std::marker::Model;
 
-/// Packets that ended at the same instruction in the same way.
+/// Packets that ended at the same instruction with the same verdict.
 #[derive(Clone, Copy, Debug, PartialEq, Eq)]
 pub(crate) struct Group {
     /// How many there are.
@@ -55,7 +55,7 @@ fn add<A: Allocator>(groups: &mut Vec<Group, A>, ended: Ended)
     groups[ended.pc as usize].add(ended);
 }
 
-/// How packets ended, by the instruction and the way.
+/// How packets ended, by the verdict and the instruction.
 #[derive(Drop)]
 pub(crate) struct Groups<A: Allocator> {
     passed: Vec<Group, A>,

@@ -20,7 +20,7 @@ use crate::blocks::block_begins;
 use crate::chosen::PacketRange;
 use crate::counted::Counted;
 use crate::coverage::write_coverage;
-use crate::graph::{Counted as CountedProgram, write_graph};
+use crate::graph::{CountedProgram, write_graph};
 use crate::groups::{Groups, write_groups};
 use crate::report::Report;
 use crate::taking::take_packets;
@@ -203,8 +203,8 @@ fn end_read<R: Read, A: Allocator>(
 /// # Errors
 ///
 /// `Read` or `Memory` where no further record could be read: what was to be written of the packets before was written,
-/// but nothing of all together. `Memory` also where there is no room for the counts. `Write` where a write or a flush
-/// failed: a beginning of the text was written.
+/// but nothing of all together. `Memory` also where there is no room for the counts, or for the blocks of a graph.
+/// `Write` where a write or a flush failed: a beginning of the text was written.
 pub fn why<P: Allocator, A: Allocator + Copy, R: Read, B: Allocator, W: Write>(
     alloc: A,
     question: &Question<'_, P>,

@@ -3,13 +3,13 @@
 /// What is reported of a program on the packets of a capture.
 #[derive(Clone, Copy, Debug, PartialEq, Eq)]
 pub enum Report {
-    /// A line for each instruction and each way in which packets ended there, and how many passed and failed.
+    /// A line for each instruction and each verdict with which packets ended there, and how many passed and failed.
     Summary,
     /// The way of each packet: what it executed.
     Ways,
     /// A line for each packet.
     Packets,
-    /// The listing with how often each instruction ran.
+    /// The listing with how often each instruction ran. cbpf_command_line calls it `Listing`.
     Coverage,
     /// The same as a graph in DOT.
     Graph,
