@@ -8,23 +8,23 @@ use Rattle.clap.specs.Words.{matched_of, raw_values, all_of}
 use Rattle.std.specs.Prelude.{option_map}
 use Rattle.clap.proofs.WalkLemmas.{first_value-rows, raw_values-rows}
 use Rattle.clap.specs.declared.parser.matches.ArgMatches.{ArgMatches}
-use Rattle.cbpf_command_line.specs.CommandLine.{cbpf_app, dbg, asked_for, asked_by, faults_in}
+use Rattle.cbpf_command_line.specs.CommandLine.{app_without_why, dbg, asked_for, asked_by, faults_in}
 
-is_simple-cbpf : is_simple cbpf_app ≡ true
+is_simple-cbpf : is_simple app_without_why ≡ true
 is_simple-cbpf = refl
 
-is_free-cbpf : is_simple_and_free cbpf_app ≡ true
+is_free-cbpf : is_simple_and_free app_without_why ≡ true
 is_free-cbpf = refl
 
 -- the job asked for is that of the subcommand's matches
-pub asked_for-matches : (a : App) (words : List Text) (m : ArgMatches) → a ≡ cbpf_app → HasMatchesOf a words m
+pub asked_for-matches : (a : App) (words : List Text) (m : ArgMatches) → a ≡ app_without_why → HasMatchesOf a words m
     → asked_by (subcommand_rows_of m) ≡ asked_for words
 unfolding asked_for
 asked_for-matches a words m e h =
     ap asked_by ((h (ap is_simple e ∙ is_simple-cbpf)).1 ∙ ap (λ b. subcommand_of b words) e)
 
 -- what holds of the command's faults holds of those of the words
-pub faults_in-command : (P : Kinds → Type 0) (a : App) (words : List Text) → a ≡ cbpf_app
+pub faults_in-command : (P : Kinds → Type 0) (a : App) (words : List Text) → a ≡ app_without_why
     → (is_simple_and_free a ≡ true → P (fault_of a words)) → P (faults_in words)
 unfolding faults_in
 faults_in-command P a words e h =

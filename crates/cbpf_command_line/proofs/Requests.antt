@@ -9,13 +9,13 @@ use Rattle.clap.specs.declared.parser.matches.ArgMatches.{ArgMatches}
 use Rattle.cbpf_command_line.specs.CommandLine.{dbg, IsFaultOf}
 use Rattle.cbpf_command_line.specs.declared.job.LineFault.{LineFault}
 use Rattle.cbpf_command_line.specs.declared.job.LineFault.TheVariants.{Help, Refused, Memory}
-use Rattle.cbpf_command_line.specs.RequestLine.{wide_app, Requested, job, requested_by, requested_for, conflict_by}
+use Rattle.cbpf_command_line.specs.RequestLine.{cbpf_app, Requested, job, requested_by, requested_for, conflict_by}
 use Rattle.cbpf_command_line.specs.RequestLine.{request_faults}
 
-is_simple-wide : is_simple wide_app ≡ true
+is_simple-wide : is_simple cbpf_app ≡ true
 is_simple-wide = refl
 
-is_free-wide : is_simple_and_free wide_app ≡ true
+is_free-wide : is_simple_and_free cbpf_app ≡ true
 is_free-wide = refl
 
 -- a fault of the parse is one of the words
@@ -26,7 +26,7 @@ fault-first [] next (Refused text) h = absurd h.2
 fault-first [] next Memory h = tt
 fault-first (k ∷ ks) next fault h = h
 
-module _ (a : App) (words : List Text) (e : a ≡ wide_app) where
+module _ (a : App) (words : List Text) (e : a ≡ cbpf_app) where
   -- the request is that of the subcommand's matches
   pub requested_for-matches : (m : ArgMatches) → HasMatchesOf a words m
       → requested_by (subcommand_rows_of m) ≡ requested_for words
@@ -35,13 +35,13 @@ module _ (a : App) (words : List Text) (e : a ≡ wide_app) where
       ap requested_by ((h (ap is_simple e ∙ is_simple-wide)).1 ∙ ap (λ b. subcommand_of b words) e)
 
   conflict-matches : (m : ArgMatches) → HasMatchesOf a words m
-      → conflict_by (subcommand_rows_of m) ≡ conflict_by (subcommand_of wide_app words)
+      → conflict_by (subcommand_rows_of m) ≡ conflict_by (subcommand_of cbpf_app words)
   conflict-matches m h =
       ap conflict_by ((h (ap is_simple e ∙ is_simple-wide)).1 ∙ ap (λ b. subcommand_of b words) e)
 
   -- what holds of the command's faults holds of those of the wide one
   faults-wide : (P : Kinds → Type 0) → (is_simple_and_free a ≡ true → P (fault_of a words))
-      → P (fault_of wide_app words)
+      → P (fault_of cbpf_app words)
   faults-wide P h = subst P (ap (λ b. fault_of b words) e) (h (ap is_simple_and_free e ∙ is_free-wide))
 
   -- after a parse that succeeds the faults are those of the flags
@@ -49,8 +49,8 @@ module _ (a : App) (words : List Text) (e : a ≡ wide_app) where
       → conflict_by (subcommand_rows_of m) ≡ request_faults words
   unfolding request_faults
   faults-parsed m h f =
-      let none : fault_of wide_app words ≡ [] = faults-wide (λ kinds. kinds ≡ []) f in
-      conflict-matches m h ∙ sym (ap (λ kinds. or_else kinds (conflict_by (subcommand_of wide_app words))) none)
+      let none : fault_of cbpf_app words ≡ [] = faults-wide (λ kinds. kinds ≡ []) f in
+      conflict-matches m h ∙ sym (ap (λ kinds. or_else kinds (conflict_by (subcommand_of cbpf_app words))) none)
 
   -- a parse that fails has a fault of the words
   pub faults-unparsed : (fault : LineFault) → (is_simple_and_free a ≡ true → IsFaultOf (fault_of a words) fault)

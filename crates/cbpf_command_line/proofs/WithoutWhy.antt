@@ -13,10 +13,10 @@ use Rattle.std.specs.Option.{option_map_or}
 use Rattle.clap.specs.Kinds.{Kinds, or_else}
 use Rattle.std.proofs.lemmas.Slice.Eq.{bytes_eq-Decides}
 use Rattle.std.specs.Prelude.{find, is_some, IfOk, IfErr, Result, Ok, Err}
-use Rattle.cbpf_command_line.specs.CommandLine.{cbpf_app, asked_by, asked_for, faults_in, IsFaultOf}
+use Rattle.cbpf_command_line.specs.CommandLine.{app_without_why, asked_by, asked_for, faults_in, IsFaultOf}
 use Rattle.cbpf_command_line.specs.declared.job.LineFault.{LineFault}
 use Rattle.cbpf_command_line.specs.declared.request.RequestWords.{RequestWords}
-use Rattle.cbpf_command_line.specs.RequestLine.{wide_app, job, is_why, requested_by, requested_for, conflict_by}
+use Rattle.cbpf_command_line.specs.RequestLine.{cbpf_app, job, is_why, requested_by, requested_for, conflict_by}
 use Rattle.cbpf_command_line.specs.RequestLine.{request_faults}
 use Rattle.cbpf_command_line.specs.RequestLine.{names_why, AnswersAsWithoutWhy, request_meaning}
 
@@ -89,13 +89,13 @@ module _ (s : Shape) (plain wide : Names) (more : Text)
 -- ---- the program's command
 
 abbrev top : Shape
-top = (built cbpf_app).top
+top = (built app_without_why).top
 
 abbrev plain_names : Names
-plain_names = names_of (built cbpf_app)
+plain_names = names_of (built app_without_why)
 
 abbrev wide_names : Names
-wide_names = names_of (built wide_app)
+wide_names = names_of (built cbpf_app)
 
 found-same : (word : Text) (a d w : Bool) → answers_to word (codes "asm", []) ≡ a
     → answers_to word (codes "dbg", []) ≡ d
@@ -116,8 +116,8 @@ met-same positional word = inl refl
 
 -- the subcommand of a name that isn't `why`
 abbrev SubSame : Text → Type 0
-SubSame name = find (λ s. answers_to name (label_of s)) (built wide_app).subs
-    ≡ find (λ s. answers_to name (label_of s)) (built cbpf_app).subs
+SubSame name = find (λ s. answers_to name (label_of s)) (built cbpf_app).subs
+    ≡ find (λ s. answers_to name (label_of s)) (built app_without_why).subs
 
 sub-same : (name : Text) (a d w : Bool) → answers_to name (codes "asm", []) ≡ a → answers_to name (codes "dbg", []) ≡ d
     → answers_to name (codes "why", []) ≡ w → w ≡ false → SubSame name
@@ -130,11 +130,11 @@ sub-same name false false false ea ed ew n = rw (ea, ed, ew) refl
 abbrev ComesToWhy : List Text → Type 0
 ComesToWhy words = ComesTo top plain_names wide_names (codes "why") met-same (walk_from nothing_held) words
 
-not-why : (words : List Text) → names_why words ≡ false → ¬ ComesToWhy (argument_words (built wide_app) words)
+not-why : (words : List Text) → names_why words ≡ false → ¬ ComesToWhy (argument_words (built cbpf_app) words)
 unfolding names_why
 not-why words n come =
-    let why : is_why (subcommand_of wide_app words) ≡ true =
-    ap (λ stop. is_why (entered (built wide_app) stop)) come.1 in
+    let why : is_why (subcommand_of cbpf_app words) ≡ true =
+    ap (λ stop. is_why (entered (built cbpf_app) stop)) come.1 in
     let no : true ≡ false = sym why ∙ n in
     absurd (cc no)
 
@@ -144,8 +144,8 @@ is_false false n = refl
 
 -- what a walk that doesn't stop at `why` enters
 entered-same : (stop : Option (Text × List Text)) → ((words : List Text) → stop ≡ Some (codes "why", words) → ⊥)
-    → (entered (built wide_app) stop ≡ entered (built cbpf_app) stop)
-    × (entered_fault (built wide_app) stop ≡ entered_fault (built cbpf_app) stop)
+    → (entered (built cbpf_app) stop ≡ entered (built app_without_why) stop)
+    × (entered_fault (built cbpf_app) stop ≡ entered_fault (built app_without_why) stop)
 entered-same None n = (refl, refl)
 entered-same (Some p) n =
     let other : answers_to p.0 (codes "why", []) ≡ false = is_false (bytes_eq (codes "why") p.0)
@@ -169,19 +169,19 @@ level-same s w v k l a b x y e f g h = rw (e, f, g, h) refl
 
 -- the same subcommand, and the same faults
 pub parsed-same : (words : List Text) → names_why words ≡ false
-    → (subcommand_of wide_app words ≡ subcommand_of cbpf_app words)
-    × (fault_of wide_app words ≡ fault_of cbpf_app words)
+    → (subcommand_of cbpf_app words ≡ subcommand_of app_without_why words)
+    × (fault_of cbpf_app words ≡ fault_of app_without_why words)
 unfolding level_by
 parsed-same words n =
-    let rest = argument_words (built wide_app) words in
+    let rest = argument_words (built cbpf_app) words in
     let far = not-why words n in
     let same = walks-same top plain_names wide_names (codes "why") met-same (walk_from nothing_held) rest far in
     let stops = entered-same (walk top.rules wide_names nothing_held rest).stopped (λ qs e. far (qs, e)) in
-    let below = ap (λ w. entered (built cbpf_app) w.stopped) same.0 in (
+    let below = ap (λ w. entered (built app_without_why) w.stopped) same.0 in (
       stops.0 ∙ below,
       level-same top (walk top.rules wide_names nothing_held rest) (walk top.rules plain_names nothing_held rest)
           _ _ _ _ _ _ same.0 same.1 (ap is_some (stops.0 ∙ below))
-          (stops.1 ∙ ap (λ w. entered_fault (built cbpf_app) w.stopped) same.0),
+          (stops.1 ∙ ap (λ w. entered_fault (built app_without_why) w.stopped) same.0),
     )
 
 or_else-none : (kinds : Kinds) → or_else kinds [] ≡ kinds
@@ -194,17 +194,17 @@ pub answers-as-before : (words : List Text) (result : Result RequestWords LineFa
 unfolding requested_for request_faults asked_for faults_in names_why
 answers-as-before words (Ok r) request taken refused = λ n.
     let same = parsed-same words n in
-    let asks : requested_by (subcommand_of wide_app words) ≡ job (asked_by (subcommand_of wide_app words)) =
+    let asks : requested_by (subcommand_of cbpf_app words) ≡ job (asked_by (subcommand_of cbpf_app words)) =
     rw n refl in
-    let none : conflict_by (subcommand_of wide_app words) ≡ [] = rw n refl in
-    let faults : or_else (fault_of wide_app words) (conflict_by (subcommand_of wide_app words))
-    ≡ fault_of cbpf_app words =
-    ap (or_else (fault_of wide_app words)) none ∙ or_else-none (fault_of wide_app words) ∙ same.1 in
+    let none : conflict_by (subcommand_of cbpf_app words) ≡ [] = rw n refl in
+    let faults : or_else (fault_of cbpf_app words) (conflict_by (subcommand_of cbpf_app words))
+    ≡ fault_of app_without_why words =
+    ap (or_else (fault_of cbpf_app words)) none ∙ or_else-none (fault_of cbpf_app words) ∙ same.1 in
     (request ∙ asks ∙ ap (λ sub. job (asked_by sub)) same.0, sym faults ∙ taken)
 answers-as-before words (Err fault) request taken refused = λ n.
     let same = parsed-same words n in
-    let none : conflict_by (subcommand_of wide_app words) ≡ [] = rw n refl in
-    let faults : or_else (fault_of wide_app words) (conflict_by (subcommand_of wide_app words))
-    ≡ fault_of cbpf_app words =
-    ap (or_else (fault_of wide_app words)) none ∙ or_else-none (fault_of wide_app words) ∙ same.1 in
+    let none : conflict_by (subcommand_of cbpf_app words) ≡ [] = rw n refl in
+    let faults : or_else (fault_of cbpf_app words) (conflict_by (subcommand_of cbpf_app words))
+    ≡ fault_of app_without_why words =
+    ap (or_else (fault_of cbpf_app words)) none ∙ or_else-none (fault_of cbpf_app words) ∙ same.1 in
     subst (λ kinds. IsFaultOf kinds fault) faults refused

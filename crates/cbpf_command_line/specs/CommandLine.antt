@@ -1,11 +1,11 @@
--- The command line of the program, and what its words ask for:
+-- The command line of the program without `why`, and what its words ask for:
 -- this project's own, by `clap`'s meaning of a command line.
 use Rattle.std.specs.Prelude.{◌≡◌, ◌≢◌, ◌⊎◌, ℕ, if◌then◌else◌, Bool, true, false, [], List, Option, Some, None, option_map, codes}
 use Rattle.std.specs.Prelude.{bytes_eq, String}
 use Rattle.std.specs.Option.{option_map_or}
 use Rattle.clap.specs.Words.{App, Rule, Row, Text, new_app, new_rule, with_rule, with_subcommand, first_of}
 use Rattle.clap.specs.Words.{subcommand_of, fault_of}
-use Rattle.clap.specs.Kinds.{IsAmong}
+use Rattle.clap.specs.Kinds.{IsAmong, Kinds}
 use Rattle.clap.specs.declared.builder.action.ArgAction.TheVariants.{SetTrue}
 use Rattle.clap.specs.declared.error.kind.ErrorKind.{ErrorKind}
 use Rattle.clap.specs.declared.error.kind.ErrorKind.TheVariants.{DisplayHelp, DisplayVersion}
@@ -40,11 +40,11 @@ dbg_app = with_rule (with_rule (new_app (codes "dbg")) (file_rule (codes "input"
 abbrev pub bare_app : App
 bare_app = record { top = record (new_app (codes "cbpf")).top { has_version = true }; subs = [] }
 
--- `cbpf`, with its two subcommands
-abbrev pub cbpf_app : App
-cbpf_app = with_subcommand (with_subcommand bare_app asm_app.top) dbg_app.top
+-- `cbpf` without `why`: with its two other subcommands
+abbrev pub app_without_why : App
+app_without_why = with_subcommand (with_subcommand bare_app asm_app.top) dbg_app.top
 
--- what the program is asked to do, with the names that are given
+-- what the program without `why` is asked to do, with the names that are given
 pub data Asked : Type 0 where
   asm : (form : Form) (file : Option Text) → Asked
   dbg : (input output : Option Text) → Asked
@@ -72,11 +72,11 @@ asked_by (Some sub) = if bytes_eq sub.0 (codes "asm") then asm_asked sub.1 else 
 
 -- what the words ask of the program without `why`
 unfoldable pub asked_for : List Text → Asked
-asked_for words = asked_by (subcommand_of cbpf_app words)
+asked_for words = asked_by (subcommand_of app_without_why words)
 
 -- the kinds of faults that the words may have for the program without `why`; only words without a fault are taken
-unfoldable pub faults_in : List Text → List ErrorKind
-faults_in words = fault_of cbpf_app words
+unfoldable pub faults_in : List Text → Kinds
+faults_in words = fault_of app_without_why words
 
 -- the bytes of a string
 abbrev pub text_of : {Z : Type 0} → String Z → Text
@@ -91,9 +91,9 @@ meaning (job.Dbg input output) = dbg (option_map text_of input) (option_map text
 abbrev pub IsRefusalKind : ErrorKind → Type 0
 IsRefusalKind kind = (kind ≢ DisplayHelp) × (kind ≢ DisplayVersion)
 
--- help or the version where it is asked for, a refusal for every other kind of fault;
--- `Memory` says nothing of the words
-abbrev pub IsFaultOf : List ErrorKind → LineFault → Type 0
+-- help or the version where it is asked for, a refusal for every other kind of fault; which text it has isn't said
+-- here. `Memory` says nothing of the words
+abbrev pub IsFaultOf : Kinds → LineFault → Type 0
 IsFaultOf kinds (Help text) = IsAmong DisplayHelp kinds ⊎ IsAmong DisplayVersion kinds
 IsFaultOf kinds (Refused text) =
     (kind : ErrorKind) × IsRefusalKind kind × IsAmong kind kinds

@@ -11,8 +11,8 @@ use Rattle.clap.specs.Words.{subcommand_of, fault_of}
 pub use Rattle.clap.specs.Kinds.{Kinds, or_else}
 use Rattle.clap.specs.declared.builder.action.ArgAction.TheVariants.{Append}
 use Rattle.clap.specs.declared.error.kind.ErrorKind.TheVariants.{ArgumentConflict, ValueValidation}
-use Rattle.cbpf_command_line.specs.CommandLine.{cbpf_app, Asked, asked_by, asked_for, faults_in, meaning, text_of}
-use Rattle.cbpf_command_line.specs.CommandLine.{IsFaultOf, flag_rule, file_rule, is_set}
+use Rattle.cbpf_command_line.specs.CommandLine.{app_without_why, Asked, asked_by, asked_for, faults_in, meaning}
+use Rattle.cbpf_command_line.specs.CommandLine.{text_of, IsFaultOf, flag_rule, file_rule, is_set}
 use Rattle.cbpf_command_line.specs.declared.job.LineFault.{LineFault}
 use Rattle.cbpf_command_line.specs.declared.request.Detail.{Detail}
 use Rattle.cbpf_command_line.specs.declared.request.Detail.TheVariants.{Packets, Listing, Graph}
@@ -49,8 +49,8 @@ abbrev pub why_app : App
 why_app = fold with_rule (fold with_rule (new_app (codes "why")) detail_rules) word_rules
 
 -- `cbpf` with `why` beside its two other subcommands
-abbrev pub wide_app : App
-wide_app = with_subcommand cbpf_app why_app.top
+abbrev pub cbpf_app : App
+cbpf_app = with_subcommand app_without_why why_app.top
 
 -- what `why` is asked, in texts
 pub record WhyAsked : Type 0 where
@@ -109,22 +109,22 @@ rows_in sub = option_map_or (λ s. s.1) sub []
 abbrev pub requested_by : Option (Text × List Row) → Requested
 requested_by sub = if is_why sub then why (why_asked (rows_in sub)) else job (asked_by sub)
 
--- the same of flags that are set for `why`
+-- `conflict_in` of the flags of `why`, where the subcommand is `why`
 abbrev pub conflict_by : Option (Text × List Row) → Kinds
 conflict_by sub = if is_why sub then conflict_in (rows_in sub) else []
 
 -- the words name `why`
 unfoldable pub names_why : List Text → Bool
-names_why words = is_why (subcommand_of wide_app words)
+names_why words = is_why (subcommand_of cbpf_app words)
 
 -- what the words ask of the program with `why`
 unfoldable pub requested_for : List Text → Requested
-requested_for words = requested_by (subcommand_of wide_app words)
+requested_for words = requested_by (subcommand_of cbpf_app words)
 
--- the kinds of faults that the words may have for the program with `why`; what the texts after `why` spell isn't
--- checked here
+-- the kinds of faults that the words may have for the program with `why`: those of `clap`; where there are none, that
+-- of the flags. What the texts after `why` spell isn't checked here
 unfoldable pub request_faults : List Text → Kinds
-request_faults words = or_else (fault_of wide_app words) (conflict_by (subcommand_of wide_app words))
+request_faults words = or_else (fault_of cbpf_app words) (conflict_by (subcommand_of cbpf_app words))
 
 -- what the words of `why` stand for
 abbrev pub why_meaning : WhyWords → WhyAsked

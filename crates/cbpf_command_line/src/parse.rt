@@ -137,7 +137,7 @@ fn dbg_command<'a>(alloc: Global) -> Result<Command<'a>, AllocError>
 }
 
 pub(crate) fn command<'a>(alloc: Global) -> Result<Command<'a>, AllocError>
-    ensures { IfOk result (λ c. app_of c ≡ spec.cbpf_app) }
+    ensures { IfOk result (λ c. app_of c ≡ spec.app_without_why) }
 {
     Command::new(alloc, "cbpf")
         .version(VERSION)

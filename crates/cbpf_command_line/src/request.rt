@@ -7,7 +7,7 @@ use crate::job::Job;
 pub enum Detail {
     /// `-p`: a line for each packet.
     Packets,
-    /// `-l`: the listing with counts.
+    /// `-l`: the listing with counts. cbpf_why calls this report `Coverage`.
     Listing,
     /// `-g`: a graph with counts.
     Graph,
@@ -21,7 +21,7 @@ pub struct WhyWords {
     pub values: Vec<String>,
     /// The name of the filter's file.
     pub filter: String,
-    /// The name of the capture; without one it is the standard input.
+    /// The name of the capture; without one, or with `-`, it is the standard input.
     pub capture: Option<String>,
     /// The numbers of packets, and ranges of them.
     pub packets: Vec<String>,

@@ -136,7 +136,7 @@ fn why_command<'a>(alloc: Global) -> Result<Command<'a>, AllocError>
 
 /// The program's command with `why`.
 fn wide_command<'a>(alloc: Global) -> Result<Command<'a>, AllocError>
-    ensures { IfOk result (λ c. app_of c ≡ spec.wide_app) }
+    ensures { IfOk result (λ c. app_of c ≡ spec.cbpf_app) }
 {
     command(alloc)?.subcommand(why_command(alloc)?)
 }
