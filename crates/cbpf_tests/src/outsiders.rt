@@ -67,7 +67,7 @@ impl Files for Unreadable {
     ghost use Rattle.std.specs.FinMap as map;
 
     ghost source = { λ d. record {
-      files = record { by_name = map.empty; counts_exactly = false };
+      held = record { by_name = map.empty; counts_exactly = false };
       failures = d.failures;
       is_known = false;
     } };

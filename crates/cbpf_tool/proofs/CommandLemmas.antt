@@ -11,7 +11,7 @@ use Rattle.std.proofs.lemmas.Slice.Eq.{bytes_eq-Decides, text_from_reads, HasByt
 use Rattle.std.proofs.lemmas.Str.{is_utf8-from_IsUtf8, IsUtf8-from_is_utf8, IsUtf8-from_ascii}
 use Rattle.std.proofs.lemmas.Str.Ascii.{IsAscii-nil, IsAscii-cons}
 use Rattle.cbpf_tool.specs.LineWords.{words_of, after_words, trimmed}
-use Rattle.cbpf_tool.specs.Commands.{ReadsArguments, command_table, by_name, name_in, load_by}
+use Rattle.cbpf_tool.specs.Commands.{ReadsArguments, command_table, by_name, load_capture_by, load_by}
 use Rattle.cbpf_tool.specs.declared.command.Command.TheVariants.{LoadCapture}
 use Rattle.cbpf_reply.specs.declared.errors.CommandFault.TheVariants.{UnknownCommand}
 
@@ -44,7 +44,7 @@ pub unknown : (w : List ℕ) (ws : List (List ℕ)) (text : List ℕ) → (IsUtf
 unknown w ws text n =
     rw (none-named command_table w n refl) refl
 
-pub name-good : (s : List ℕ) → (length s ≡ 0 → ⊥) → IsUtf8 s → name_in s ≡ Some (LoadCapture s)
+pub name-good : (s : List ℕ) → (length s ≡ 0 → ⊥) → IsUtf8 s → load_capture_by s ≡ Some (LoadCapture s)
 name-good [] n h = absurd (n refl)
 name-good (b ∷ bs) n h = rw (is_utf8-from_IsUtf8 (b ∷ bs) h) refl
 
@@ -52,7 +52,7 @@ utf8-not : (s : List ℕ) (t : Bool) → is_utf8 s ≡ t → (IsUtf8 s → ⊥) 
 utf8-not s true e n = absurd (n (IsUtf8-from_is_utf8 s e))
 utf8-not s false e n = e
 
-pub name-bad : (s : List ℕ) → (IsUtf8 s → ⊥) → name_in s ≡ None
+pub name-bad : (s : List ℕ) → (IsUtf8 s → ⊥) → load_capture_by s ≡ None
 name-bad [] n = refl
 name-bad (b ∷ bs) n = rw (utf8-not (b ∷ bs) (is_utf8 (b ∷ bs)) refl n) refl
 

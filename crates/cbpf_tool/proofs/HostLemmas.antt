@@ -4,12 +4,12 @@ use Rattle.cbpf_code.specs.Writing.{Appended, AppendedPart}
 use Rattle.cbpf_code.specs.declared.form.Form.{Form}
 use Rattle.cbpf_tool.specs.Assembling.{Assembled}
 use Rattle.cbpf_tool.specs.Debugged.{Debugged}
-use Rattle.cbpf_tool.specs.FileMap.{Source, known_source}
+use Rattle.cbpf_tool.specs.FileMap.{FileSource, known_source}
 use Rattle.cbpf_tool.specs.declared.fault.ToolFault.{ToolFault}
 use Rattle.cbpf_tool.specs.declared.fault.ToolFault.TheVariants.{Source as RefusedSource, Read, Write, Memory}
 use Rattle.std.specs.FinMap as map
 use Rattle.cbpf_tool.specs.Hosted.{Hosted, Event, and_then, without_output, opened, created, wrote, printed}
-use Rattle.cbpf_tool.specs.Jobs.{tooled, Ends, Prints, RunsTool, AssembledTo, DebuggedTo, RepliesTo}
+use Rattle.cbpf_tool.specs.Jobs.{tooled, RanOnce, Prints, RunsTool, AssembledTo, DebuggedTo, RepliesTo}
 use Rattle.cbpf_tool.specs.declared.failure.Failure.{Failure}
 
 pub appended-some : (old : List ℕ) (new : Option (List ℕ)) (t : List ℕ) → Appended (Some old) new t
@@ -33,7 +33,7 @@ assembled-some source form new (Err Read) h = appended-some [] new _ h
 assembled-some source form new (Err Memory) h = appended-some [] new _ h
 assembled-some source form new (Err Write) h = part-some [] new _ h.2
 
-outcome-some : (script : List ℕ) (left new : Option (List ℕ)) (f g : Source) (t : Result (Unit {0}) ToolFault)
+outcome-some : (script : List ℕ) (left new : Option (List ℕ)) (f g : FileSource) (t : Result (Unit {0}) ToolFault)
     → Debugged script left (Some []) new f g t → (text : List ℕ) × (new ≡ Some text)
 outcome-some script left new f g (Ok x) h = appended-some [] new _ h.outcome.3
 outcome-some script left new f g (Err Read) h = appended-some [] new _ h.outcome.7
@@ -47,13 +47,13 @@ outcome-some script left new f g (Err (RefusedSource e)) h = absurd h.outcome
 pub assembled-printed : (h mid new : Hosted) (source : List ℕ) (form : Form) (old w : Option (List ℕ))
     (t : Result (Unit {0}) ToolFault) → mid ≡ h → old ≡ Some [] → Assembled source form old w t
     → ((text : List ℕ) → w ≡ Some text → new ≡ and_then mid (printed text ∷ []))
-    → Ends h new printed (AssembledTo source form) t
+    → RanOnce h new printed (AssembledTo source form) t
 assembled-printed h mid new source form old w t m o a p =
     let b : Assembled source form (Some []) w t = rw o at a in
     let some = assembled-some source form w t b in
     inr (some.0, rw m at (p some.0 some.1), rw some.1 at b)
 
-pub debugged-from : (h : Hosted) (script : List ℕ) (left old new : Option (List ℕ)) (f g : Source)
+pub debugged-from : (h : Hosted) (script : List ℕ) (left old new : Option (List ℕ)) (f g : FileSource)
     (t : Result (Unit {0}) ToolFault) → old ≡ Some [] → f ≡ known_source h.files 0
     → (IsTrue f.is_known → Debugged script left old new f g t)
     → (text : List ℕ) × (new ≡ Some text) × DebuggedTo h script text t
@@ -67,7 +67,7 @@ pub debugged-left : (h mid last new : Hosted) (script : List ℕ) (w : Option (L
     (t : Result (Unit {0}) ToolFault) → mid ≡ h → last ≡ mid
     → (text : List ℕ) → w ≡ Some text → DebuggedTo mid script text t
     → ((x : List ℕ) → w ≡ Some x → new ≡ and_then last (event x ∷ []))
-    → Ends h new event (DebuggedTo h script) t
+    → RanOnce h new event (DebuggedTo h script) t
 debugged-left h mid last new script w event t m l text some d p =
     inr (text, rw (l, m) at (p text some), rw m at d)
 
@@ -75,7 +75,8 @@ debugged-left h mid last new script w event t m l text some d p =
 
 pub asm-opened : (h mid new : Hosted) (name at bytes : List ℕ) (form : Form) (t : Result (Unit {0}) ToolFault)
     (r : Result (Unit {0}) Failure) → at ≡ name → map.get h.files at ≡ Some bytes
-    → mid ≡ and_then h (opened at ∷ []) → r ≡ tooled t → Ends (without_output mid) new printed (AssembledTo bytes form) t
+    → mid ≡ and_then h (opened at ∷ []) → r ≡ tooled t
+    → RanOnce (without_output mid) new printed (AssembledTo bytes form) t
     → (x : List ℕ) × (map.get h.files name ≡ Some x)
     × Prints (and_then h (opened name ∷ [])) new (AssembledTo x form) r
 asm-opened h mid new name at bytes form t r e g m q d = (bytes, rw e at g, (t, q, rw (m, e) at d))

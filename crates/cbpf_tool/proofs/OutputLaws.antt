@@ -26,8 +26,8 @@ use Rattle.cbpf_reply.specs.Errors.{word_fault_text, check_fault_text, capture_f
 use Rattle.cbpf_reply.specs.declared.errors.LoadFault.TheVariants.{Absent, Device}
 use Rattle.cbpf_reply.specs.Loads.{program_text, capture_text}
 use Rattle.cbpf_dbg.specs.Commands.{with_program_loaded, with_capture_loaded}
-use Rattle.cbpf_tool.specs.Laws.{OwnOutput, own_end, own_quit, own_line, IsPartOf, OneOutput}
-use Rattle.cbpf_tool.specs.Laws.{NoOther, HasOutput, OwnIsOutput}
+use Rattle.cbpf_tool.specs.Laws.{OwnOutput, own_end, own_quit, own_line, IsPartOf, OneOwnOutput}
+use Rattle.cbpf_tool.specs.Laws.{NoOther, HasOwnOutput, OwnIsOutput}
 
 words-once : (m : View) (text : List ℕ) (r r' : Reply) → LoadsWords m text r → LoadsWords m text r' → r' ≡ r
 words-once m text r r' (unreadable f k u h) (unreadable f' k' u' h') =
@@ -76,7 +76,7 @@ quit-none : (files : Held) (m : View) (said : Result (Option Command) CommandFau
     → said ≡ Ok (Some Quit) → OwnReply files m said r → ⊥
 quit-none files m said r e h = subst (λ x. OwnReply files m x r) e h
 
-pub one_output : OneOutput
+pub one_output : OneOwnOutput
 one_output files m [] t u own_end own_end = refl
 one_output files m (l ∷ ls) t u (own_quit _ _ q) (own_quit _ _ _) = refl
 one_output files m (l ∷ ls) t u (own_quit _ _ q) (own_line _ r a o) = absurd (quit-none files m (command_of l) r q a)
@@ -126,7 +126,7 @@ own-some files m (Ok (Some Quit)) = inl refl
 own-some files m (Ok None) = inr (([], m), refl)
 own-some files m (Err e) = inr ((command_fault_text e, m), refl)
 
-pub has_output : HasOutput
+pub has_output : HasOwnOutput
 has_output files m [] = ([], own_end)
 has_output files m (l ∷ ls) =
     elim (own-some files m (command_of l)) [

@@ -11,7 +11,7 @@ use Rattle.cbpf_code.specs.declared.checker.CheckFault.{CheckFault}
 use Rattle.cbpf_dbg.specs.View.{View}
 use Rattle.cbpf_dbg.specs.Commands.{with_program_loaded, with_capture_loaded}
 use Rattle.cbpf_tool.proofs.FileLemmas.{none-counted}
-use Rattle.cbpf_tool.specs.FileMap.{Source}
+use Rattle.cbpf_tool.specs.FileMap.{FileSource}
 use Rattle.cbpf_tool.specs.Loads.{Loads}
 use Rattle.cbpf_tool.specs.Progress.{Kept, Replied, Answered, LineRan}
 use Rattle.cbpf_tool.specs.declared.debugger.AfterLine.{AfterLine}
@@ -50,10 +50,11 @@ words-accepted m n text list program count Written s e sound c v w = λ files f.
 
 -- ---- `load pcap`
 
-pub kept-same : (f : Source) → Kept f f
+pub kept-same : (f : FileSource) → Kept f f
 kept-same f = record { files = refl; is_known = refl }
 
-module _ {V : Type 0} (items : V → List ℕ) (f g : Source) (m n : View) (name : List ℕ) (Written : List ℕ → Type 0) where
+module _ {V : Type 0} (items : V → List ℕ) (f g : FileSource) (m n : View) (name : List ℕ)
+    (Written : List ℕ → Type 0) where
   kept-from : (r : Result V LoadFault) → Loads items f g name r → Kept f g
   kept-from r l = record { files = l.same_files; is_known = l.same_known }
 
@@ -80,7 +81,8 @@ module _ {V : Type 0} (items : V → List ℕ) (f g : Source) (m n : View) (name
 -- ---- a line
 
 -- a line other than `quit` was run, and its reply couldn't be written
-pub unwritten : (f g : Source) (m n : View) (said : Result (Option Command) CommandFault) (old new : Option (List ℕ))
+pub unwritten : (f g : FileSource) (m n : View) (said : Result (Option Command) CommandFault)
+    (old new : Option (List ℕ))
     (a : Result AfterLine WriteFault) → IsErr a → Replied f g m n said (λ t. AppendedPart old new t)
     → LineRan f g m n said old new a
 unwritten f g m n said old new (Ok b) e h = absurd (cc)

@@ -9,7 +9,7 @@ use Rattle.cbpf_code.specs.declared.writing.WriteFault.{WriteFault}
 use Rattle.cbpf_code.proofs.WrittenLemmas.{appended-nil, appended-then, appended-kept, part-then, part-take}
 use Rattle.cbpf_tool.specs.Commands.{command_of}
 use Rattle.cbpf_tool.specs.declared.command.Command.TheVariants as command
-use Rattle.cbpf_tool.specs.FileMap.{Held, Source}
+use Rattle.cbpf_tool.specs.FileMap.{Held, FileSource}
 use Rattle.cbpf_code.specs.Text.{put_front}
 use Rattle.cbpf_tool.specs.Lines.{lines, unlines, has_newline}
 use Rattle.cbpf_dbg.specs.View.{View, empty_view}
@@ -114,11 +114,11 @@ unfolding unread_bytes
 unread-nil pending None r n e = absurd (cc)
 unread-nil pending (Some xs) r n e = rw n at e
 
-module _ {script pending : List ℕ} {left old new : Option (List ℕ)} {m : View} {f g : Source}
+module _ {script pending : List ℕ} {left old new : Option (List ℕ)} {m : View} {f g : FileSource}
     (p : Progress script pending left old new f g m) (new' : Option (List ℕ)) (k : Keeps new new') where
-  so_far : Output f.files empty_view f.failures p.done p.text g.failures
+  so_far : Output f.held empty_view f.failures p.done p.text g.failures
   so_far = rw (← append-nil p.done, ← append-nil p.text)
-      (ran-output f.files f.failures g.failures g.failures empty_view m p.done p.text p.ran [] [] at_end)
+      (ran-output f.held f.failures g.failures g.failures empty_view m p.done p.text p.ran [] [] at_end)
 
   -- the lines that were run, and their output
   abbrev printed : Printed script f g
@@ -131,7 +131,7 @@ module _ {script pending : List ℕ} {left old new : Option (List ℕ)} {m : Vie
   }
 
   no_quit : ¬ HasQuit p.done
-  no_quit = ran-no-quit f.files f.failures g.failures empty_view m p.done p.text p.ran
+  no_quit = ran-no-quit f.held f.failures g.failures empty_view m p.done p.text p.ran
 
   wrote : Appended old new' p.text
   wrote = appended-kept old new new' p.text p.wrote k
@@ -160,7 +160,7 @@ module _ {script pending : List ℕ} {left old new : Option (List ℕ)} {m : Vie
   pub end-done : (left' : Option (List ℕ)) → p.rest ≡ [] → left' ≡ Some [] → Finished script left' old new' f g
   end-done left' e z = (printed, ap lines e, inr z, wrote)
 
-  module _ (new'' : Option (List ℕ)) (n : View) (g' : Source) {line : List ℕ} {more : List (List ℕ)}
+  module _ (new'' : Option (List ℕ)) (n : View) (g' : FileSource) {line : List ℕ} {more : List (List ℕ)}
       (next : lines p.rest ≡ line ∷ more) (is_known : IsTrue f.is_known) where
     here : lines script ≡ p.done ++ (line ∷ more)
     here = printed.split ∙ ap (λ (r : List (List ℕ)). p.done ++ r) next
@@ -170,17 +170,18 @@ module _ {script pending : List ℕ} {left old new : Option (List ℕ)} {m : Vie
     still_known = rw p.kept.is_known is_known
 
     -- one more line, of which the files are the same
-    replied : (u : List ℕ) → LineReplies g.files m g.failures g'.failures (command_of line) (u, n)
-        → LineReplies f.files m g.failures g'.failures (command_of line) (u, n)
+    replied : (u : List ℕ) → LineReplies g.held m g.failures g'.failures (command_of line) (u, n)
+        → LineReplies f.held m g.failures g'.failures (command_of line) (u, n)
     replied u r = subst (λ fs. LineReplies fs m g.failures g'.failures (command_of line) (u, n)) p.kept.files r
 
-    abbrev one_line : (u : List ℕ) → LineReplies g.files m g.failures g'.failures (command_of line) (u, n) → Printed script f g'
+    abbrev one_line : (u : List ℕ) → LineReplies g.held m g.failures g'.failures (command_of line) (u, n)
+        → Printed script f g'
     one_line u r = record {
       ls = p.done ++ (line ∷ []);
       more = more;
       text = p.text ++ (u ++ []);
       split = here ∙ sym (append_assoc p.done (line ∷ []) more);
-      output = ran-output f.files f.failures g.failures g'.failures empty_view m p.done p.text p.ran (line ∷ [])
+      output = ran-output f.held f.failures g.failures g'.failures empty_view m p.done p.text p.ran (line ∷ [])
           (u ++ []) (at_line line (u, n) (replied u r) at_end);
     }
 
@@ -199,7 +200,7 @@ module _ {script pending : List ℕ} {left old new : Option (List ℕ)} {m : Vie
           more = [];
           text = p.text ++ [];
           split = here ∙ sym (append-nil (p.done ++ (line ∷ more)));
-          output = rw (← q.1) (ran-output f.files f.failures g.failures g.failures empty_view m p.done p.text p.ran
+          output = rw (← q.1) (ran-output f.held f.failures g.failures g.failures empty_view m p.done p.text p.ran
               (line ∷ more) [] (at_quit line more q.0));
         } in
         (all, refl, inl (quit-in p.done line more q.0), appended-then old new' new'' p.text [] wrote q.2)
@@ -233,7 +234,7 @@ module _ {script pending : List ℕ} {left old new : Option (List ℕ)} {m : Vie
           wrote = appended-then old new' new'' p.text r.0 wrote r.2;
         }
 
-pub progress-start : (script pending : List ℕ) (left old : Option (List ℕ)) (f : Source) → pending ≡ []
+pub progress-start : (script pending : List ℕ) (left old : Option (List ℕ)) (f : FileSource) → pending ≡ []
     → left ≡ Some script → Progress script pending left old old f f empty_view
 unfolding unread_bytes
 progress-start script pending left old f n e = record {
@@ -266,7 +267,7 @@ next rest pending held left Newline e t = (_, next-whole e t.0 t.1)
 next rest pending held left Input e t = (_, next-last e t.0 t.3 t.1)
 
 -- after the last flush
-pub ended : (script : List ℕ) (left old new new' : Option (List ℕ)) (f g : Source) (r : Result (Unit {0}) ToolFault)
+pub ended : (script : List ℕ) (left old new new' : Option (List ℕ)) (f g : FileSource) (r : Result (Unit {0}) ToolFault)
     → Finished script left old new f g → Keeps new new' → IfErr r (λ e. e ≡ Write)
     → MatchResult r (λ _. Finished script left old new' f g) (λ e. Faulted script left old new' f g e)
 ended script left old new new' f g (Ok x) h k w = (h.0, h.1, h.2, appended-kept old new new' h.0.text h.3 k)

@@ -79,21 +79,22 @@ abbrev pub value_by : List (List ℕ) → Option Command
 value_by (name ∷ n ∷ []) = by_both (λ e v. Session (Value e v)) (ext_named name) (number_up_to (2 ^ 32 - 1) n)
 value_by _ = None
 
--- a word text is not empty
-abbrev pub words_in : List ℕ → Option Command
-words_in [] = None
-words_in (b ∷ bs) = Some (LoadWords (b ∷ bs))
+-- `load bpf`: a word text is not empty
+abbrev pub load_words_by : List ℕ → Option Command
+load_words_by [] = None
+load_words_by (b ∷ bs) = Some (LoadWords (b ∷ bs))
 
--- a name is not empty, and UTF-8
-abbrev pub name_in : List ℕ → Option Command
-name_in [] = None
-name_in (b ∷ bs) = if is_utf8 (b ∷ bs) then Some (LoadCapture (b ∷ bs)) else None
+-- `load pcap`: a name is not empty, and UTF-8
+abbrev pub load_capture_by : List ℕ → Option Command
+load_capture_by [] = None
+load_capture_by (b ∷ bs) = if is_utf8 (b ∷ bs) then Some (LoadCapture (b ∷ bs)) else None
 
 -- by the word after `load`, and the text after that word
 abbrev pub load_by : List (List ℕ) → List ℕ → Option Command
 load_by [] text = None
 load_by (w ∷ ws) text =
-    if bytes_eq w (codes "bpf") then words_in text else (if bytes_eq w (codes "pcap") then name_in text else None)
+    if bytes_eq w (codes "bpf") then load_words_by text
+    else (if bytes_eq w (codes "pcap") then load_capture_by text else None)
 
 -- how a command reads the words after its name, and the text after the first of them
 abbrev pub ReadsArguments : Type 0

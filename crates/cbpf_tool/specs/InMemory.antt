@@ -2,7 +2,7 @@
 use Rattle.std.specs.Prelude.{ℕ, refl}
 use Rattle.std.specs.Coded.{Coded, code_by, coded×, coded_ℕ, coded_list}
 use Rattle.std.specs.FinMap as map
-use Rattle.cbpf_tool.specs.FileMap.{FileMap, Source, known_source}
+use Rattle.cbpf_tool.specs.FileMap.{FileMap, FileSource, known_source}
 
 -- the files, how many loads failed by `Device`, and the number of the load that is to fail, counted from 1 from now
 -- on; 0 for none
@@ -11,15 +11,17 @@ pub record InMemory : Type 0 where
   pub failures : ℕ
   pub failing : ℕ
 
+-- an encoding of the files
 abbrev files_code : Coded FileMap
 files_code = map.code (coded_list coded_ℕ) (coded_list coded_ℕ)
 
--- files in memory are stored as the tuple of their fields
+-- files in memory are encoded as the tuple of their fields. The toolchain asks for an encoding of a type that another
+-- one is seen as; no clause rests on it
 abbrev pub in_memory_code : Coded InMemory
 in_memory_code =
     code_by ((FileMap × ℕ) × ℕ) (coded× (coded× files_code coded_ℕ) coded_ℕ) (λ m. ((m.files, m.failures), m.failing))
     (λ p. record { files = p.0.0; failures = p.0.1; failing = p.1 }) (λ _. refl)
 
 -- files in memory say what they hold
-abbrev pub source_of : InMemory → Source
+abbrev pub source_of : InMemory → FileSource
 source_of m = known_source m.files m.failures

@@ -5,7 +5,7 @@ use Rattle.std.specs.FinMap as map
 use Rattle.cbpf_code.specs.declared.form.Form.{Form}
 use Rattle.cbpf_tool.specs.Assembling.{Assembled}
 use Rattle.cbpf_tool.specs.Debugged.{Debugged}
-use Rattle.cbpf_tool.specs.FileMap.{Source, known_source}
+use Rattle.cbpf_tool.specs.FileMap.{FileSource, known_source}
 use Rattle.cbpf_tool.specs.declared.fault.ToolFault.{ToolFault}
 use Rattle.cbpf_tool.specs.declared.fault.ToolFault.TheVariants.{Memory}
 use Rattle.cbpf_tool.specs.Hosted.{Hosted, Event, and_then, without_input, without_output}
@@ -24,16 +24,17 @@ unopened (Ok x) = None
 unopened (Err (Tool e)) = None
 unopened (Err (CannotOpen n)) = Some (string_bytes n)
 
--- what a tool wrote is the one event, or there was no room for a buffer, and it did not begin
-abbrev pub Ends : Hosted → Hosted → (List ℕ → Event) → (List ℕ → Result (Unit {0}) ToolFault → Type 0)
+-- there was no room for a buffer, and nothing was done; or the tool left a text, of which `Done` says what it is, and
+-- `event` of it is the one event
+abbrev pub RanOnce : Hosted → Hosted → (List ℕ → Event) → (List ℕ → Result (Unit {0}) ToolFault → Type 0)
     → Result (Unit {0}) ToolFault → Type 0
-Ends old new event Done t =
+RanOnce old new event Done t =
     ((new ≡ old) × (t ≡ Err Memory)) ⊎ ((text : List ℕ) × (new ≡ and_then old (event text ∷ [])) × Done text t)
 
 -- a tool ran whose result is the job's
 abbrev pub RunsTool : Hosted → Hosted → (List ℕ → Event) → (List ℕ → Result (Unit {0}) ToolFault → Type 0)
     → Result (Unit {0}) Failure → Type 0
-RunsTool old new event Done r = (t : Result (Unit {0}) ToolFault) × (r ≡ tooled t) × Ends old new event Done t
+RunsTool old new event Done r = (t : Result (Unit {0}) ToolFault) × (r ≡ tooled t) × RanOnce old new event Done t
 
 -- the same of a tool that writes to the standard output
 abbrev pub Prints : Hosted → Hosted → (List ℕ → Result (Unit {0}) ToolFault → Type 0) → Result (Unit {0}) Failure
@@ -51,12 +52,13 @@ AssembledTo source form text t = Assembled source form (Some []) (Some text) t
 -- a script was run over the host's files, and `g` is the source of files afterwards
 abbrev pub DebuggedTo : Hosted → List ℕ → List ℕ → Result (Unit {0}) ToolFault → Type 0
 DebuggedTo h script text t =
-    (left : Option (List ℕ)) × (g : Source) × Debugged script left (Some []) (Some text) (known_source h.files 0) g t
+    (left : Option (List ℕ)) × (g : FileSource)
+    × Debugged script left (Some []) (Some text) (known_source h.files 0) g t
 
 -- `asm`: the source is the standard input, or the file, which is opened first
-abbrev pub AsmJob : Hosted → Hosted → Form → Option (List ℕ) → Result (Unit {0}) Failure → Type 0
-AsmJob old new form None r = Prints (without_input old) new (AssembledTo old.input form) r
-AsmJob old new form (Some name) r = EndsWithoutFile old new name (not_opened name) r
+abbrev pub AsmDone : Hosted → Hosted → Form → Option (List ℕ) → Result (Unit {0}) Failure → Type 0
+AsmDone old new form None r = Prints (without_input old) new (AssembledTo old.input form) r
+AsmDone old new form (Some name) r = EndsWithoutFile old new name (not_opened name) r
     ⊎ ((bytes : List ℕ) × (map.get old.files name ≡ Some bytes)
     × Prints (and_then old (opened name ∷ [])) new (AssembledTo bytes form) r)
 
@@ -67,8 +69,8 @@ RepliesTo old new script (Some name) r = EndsWithoutFile old new name (not_creat
     ⊎ RunsTool (and_then old (created name ∷ [])) new (wrote name) (DebuggedTo old script) r
 
 -- `dbg`: the script is the standard input, or the file, which is opened before the other is created
-abbrev pub DbgJob : Hosted → Hosted → Option (List ℕ) → Option (List ℕ) → Result (Unit {0}) Failure → Type 0
-DbgJob old new None output r = RepliesTo (without_input old) new old.input output r
-DbgJob old new (Some name) output r = EndsWithoutFile old new name (not_opened name) r
+abbrev pub DbgDone : Hosted → Hosted → Option (List ℕ) → Option (List ℕ) → Result (Unit {0}) Failure → Type 0
+DbgDone old new None output r = RepliesTo (without_input old) new old.input output r
+DbgDone old new (Some name) output r = EndsWithoutFile old new name (not_opened name) r
     ⊎ ((bytes : List ℕ) × (map.get old.files name ≡ Some bytes)
     × RepliesTo (and_then old (opened name ∷ [])) new bytes output r)

@@ -22,21 +22,21 @@ pub data OwnOutput (files : Held) : View → List (List ℕ) → List ℕ → Ty
 abbrev pub IsPartOf : List ℕ → List ℕ → Type 0
 IsPartOf reply text = (before after : List ℕ) × (text ≡ before ++ (reply ++ after))
 
--- some lines have one output at most
-abbrev pub OneOutput : Type 0
-OneOutput = (files : Held) (m : View) (ls : List (List ℕ)) (t u : List ℕ) → OwnOutput files m ls t
+-- some lines have at most one output in which each has its own reply
+abbrev pub OneOwnOutput : Type 0
+OneOwnOutput = (files : Held) (m : View) (ls : List (List ℕ)) (t u : List ℕ) → OwnOutput files m ls t
     → OwnOutput files m ls u → u ≡ t
 
--- some lines have an output
-abbrev pub HasOutput : Type 0
-HasOutput = (files : Held) (m : View) (ls : List (List ℕ)) → (t : List ℕ) × OwnOutput files m ls t
+-- some lines have an output in which each has its own reply
+abbrev pub HasOwnOutput : Type 0
+HasOwnOutput = (files : Held) (m : View) (ls : List (List ℕ)) → (t : List ℕ) × OwnOutput files m ls t
 
--- it is one of their outputs, by which no failure is counted
+-- an own output is also an `Output`, by which no failure is counted
 abbrev pub OwnIsOutput : Type 0
 OwnIsOutput = (files : Held) (m : View) (f : ℕ) (ls : List (List ℕ)) (t : List ℕ) → OwnOutput files m ls t
     → Output files m f ls t f
 
--- an output in which neither of the two other replies stands is that one
+-- an `Output` in which neither of the two other replies stands is an own output
 abbrev pub NoOther : Type 0
 NoOther = (files : Held) (m : View) (f g : ℕ) (ls : List (List ℕ)) (t : List ℕ) → Output files m f ls t g
     → ¬ IsPartOf memory_text t → ¬ IsPartOf (load_fault_text Device) t → OwnOutput files m ls t

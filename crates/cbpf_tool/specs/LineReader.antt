@@ -42,7 +42,7 @@ TakesPart pending pending' line line' (Ok false) =
 TakesPart pending pending' line line' (Err e) = e ≡ Memory
 
 -- a line and its newline; all that was left, without a newline, and the reader is at its end; that nothing was left; a
--- part of a line after which a read failed; or that there is a line
+-- part of a line after which a read failed; or there was no memory, and there is a line. No other fault comes
 abbrev pub TakesLine : List ℕ → List ℕ → Option (List ℕ) → List ℕ → Result (Option LineEnd) ToolFault → Type 0
 TakesLine bytes pending left line (Ok (Some Newline)) =
     (has_newline line ≡ false) × Took bytes pending left (line ++ 10 ∷ [])

@@ -6,7 +6,7 @@ use Rattle.cbpf_tool.specs.Commands.{command_of}
 use Rattle.cbpf_tool.specs.declared.command.Command.{Command}
 use Rattle.cbpf_tool.specs.declared.command.Command.TheVariants as command
 use Rattle.cbpf_reply.specs.declared.errors.CommandFault.{CommandFault}
-use Rattle.cbpf_tool.specs.FileMap.{Held, Source}
+use Rattle.cbpf_tool.specs.FileMap.{Held, FileSource}
 use Rattle.cbpf_tool.specs.Lines.{has_newline, unlines}
 use Rattle.cbpf_dbg.specs.View.{View, empty_view}
 use Rattle.cbpf_tool.specs.LineReader.{unread}
@@ -18,8 +18,8 @@ use Rattle.cbpf_tool.specs.declared.debugger.AfterLine.{AfterLine}
 use Rattle.cbpf_tool.specs.declared.debugger.AfterLine.TheVariants.{NextLine, Quit}
 
 -- the files were left as they are
-pub record Kept (f g : Source) : Type 0 where
-  pub files : g.files ≡ f.files
+pub record Kept (f g : FileSource) : Type 0 where
+  pub files : g.held ≡ f.held
   pub is_known : g.is_known ≡ f.is_known
 
 -- a line has this reply, whose text is written as `Written` says, and the view after it is n
@@ -27,9 +27,10 @@ abbrev pub Answers : Held → View → View → ℕ → ℕ → Result (Option C
 Answers files m n f g said Written = (text : List ℕ) × LineReplies files m f g said (text, n) × Written text
 
 -- a line other than `quit` was run, where it is known what the files hold
-abbrev pub Replied : Source → Source → View → View → Result (Option Command) CommandFault → (List ℕ → Type 0) → Type 0
+abbrev pub Replied : FileSource → FileSource → View → View → Result (Option Command) CommandFault → (List ℕ → Type 0)
+    → Type 0
 Replied f g m n said Written =
-    Kept f g × (IsTrue f.is_known → Answers f.files m n f.failures g.failures said Written)
+    Kept f g × (IsTrue f.is_known → Answers f.held m n f.failures g.failures said Written)
 
 -- the same of a command that opens no file
 abbrev pub Answered : View → View → Command → (List ℕ → Type 0) → Type 0
@@ -51,10 +52,10 @@ LineResult files m n f g said old new (Ok Quit) = (said ≡ Ok (Some command.Qui
 LineResult files m n f g said old new (Err e) = Answers files m n f g said (λ t. AppendedPart old new t)
 
 -- a line was run, where it is known what the files hold
-abbrev pub LineRan : Source → Source → View → View → Result (Option Command) CommandFault → Option (List ℕ)
+abbrev pub LineRan : FileSource → FileSource → View → View → Result (Option Command) CommandFault → Option (List ℕ)
     → Option (List ℕ) → Result AfterLine WriteFault → Type 0
 LineRan f g m n said old new r =
-    Kept f g × (IsTrue f.is_known → LineResult f.files m n f.failures g.failures said old new r)
+    Kept f g × (IsTrue f.is_known → LineResult f.held m n f.failures g.failures said old new r)
 
 abbrev pub EachPlain : List (List ℕ) → Type 0
 EachPlain [] = Unit {0}
@@ -67,14 +68,17 @@ pub data LinesRan (files : Held) : View → ℕ → List (List ℕ) → List ℕ
       → LineReplies files n g h (command_of l) (u, p)
       → LinesRan files m f (ls ++ l ∷ []) (t ++ u) p h
 
-pub record Progress (script pending : List ℕ) (left old new : Option (List ℕ)) (f g : Source) (m : View) :
+-- the first lines of a script were run from a debugger that has loaded nothing, and none of them is `quit`: `text` is
+-- their replies, which were written, and the view is now `m`
+pub record Progress (script pending : List ℕ) (left old new : Option (List ℕ)) (f g : FileSource) (m : View) :
     Type 0 where
   pub done : List (List ℕ)
   pub text : List ℕ
   pub rest : List ℕ
   pub split : script ≡ unlines done ++ rest
   pub plain : EachPlain done
+  -- what was read and not yet taken, and what the reader has left
   pub known : unread pending left ≡ Some rest
   pub kept : Kept f g
-  pub ran : LinesRan f.files empty_view f.failures done text m g.failures
+  pub ran : LinesRan f.held empty_view f.failures done text m g.failures
   pub wrote : Appended old new text

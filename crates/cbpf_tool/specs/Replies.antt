@@ -18,7 +18,7 @@ use Rattle.cbpf_reply.specs.declared.errors.CommandFault.{CommandFault}
 use Rattle.cbpf_reply.specs.declared.errors.LoadFault.TheVariants.{Absent, Device}
 use Rattle.pcap_classic.specs.Savefile.{Savefile, IsSavefile, IsRefusal}
 use Rattle.pcap_classic.specs.declared.header.CaptureFault.{CaptureFault}
-use Rattle.pcap_classic.specs.declared.header.CaptureFault.TheVariants as capture_fault
+use Rattle.pcap_classic.specs.declared.header.CaptureFault.TheVariants as refusal
 use Rattle.cbpf_tool.specs.FileMap.{Held}
 use Rattle.cbpf_tool.specs.Loads.{with_failure}
 use Rattle.cbpf_dbg.specs.View.{View}
@@ -43,7 +43,7 @@ pub data LoadsWords (m : View) (text : List ℕ) (reply : Reply) : Type 0 where
 
 -- `load pcap` of a file with these bytes: why they are no capture, else the capture is held
 pub data ReadsCapture (m : View) (bytes : List ℕ) (reply : Reply) : Type 0 where
-  no_capture : (fault : CaptureFault) → IsRefusal fault bytes → fault ≢ capture_fault.Memory
+  no_capture : (fault : CaptureFault) → IsRefusal fault bytes → fault ≢ refusal.Memory
       → reply ≡ (capture_fault_text fault, m) → ReadsCapture m bytes reply
   a_capture : (capture : Savefile) → IsSavefile bytes capture
       → reply ≡ (capture_text capture, with_capture_loaded m capture) → ReadsCapture m bytes reply
@@ -74,7 +74,7 @@ CanBeUnheld m (Ok (Some (LoadCapture name))) = Unit {0}
 CanBeUnheld m (Ok (Some (Session c))) = CanRunOut m c
 CanBeUnheld m _ = ⊥
 
--- a line to which the reply can be F2, but need not be
+-- a line to which the reply can be F2, the text of `Device`, but need not be
 abbrev pub CanBeUnread : Result (Option Command) CommandFault → Type 0
 CanBeUnread (Ok (Some (LoadCapture name))) = Unit {0}
 CanBeUnread _ = ⊥

@@ -98,6 +98,7 @@ abbrev pub refused_by : Option (List ℕ) → Kinds
 refused_by None = []
 refused_by (Some word) = word_faults
 
+-- the fault of the first word that gives no value; where there is none, that of the first word that names no packets
 abbrev pub why_faults : WhyAsked → Kinds
 why_faults asked = or_else (refused_by (no_value asked.values)) (refused_by (no_packets asked.packets))
 
@@ -105,7 +106,8 @@ abbrev pub faults_by : Requested → Kinds
 faults_by (job asked) = []
 faults_by (why asked) = why_faults asked
 
--- the kinds of faults that a command line may have, also by what its words spell; only a line without a fault is taken
+-- the kinds of faults that a command line may have: those of `request_faults`; where there are none, that of what its
+-- words spell. Only a line without a fault is taken
 unfoldable pub line_faults : List (List ℕ) → Kinds
 line_faults words = or_else (request_faults words) (faults_by (requested_for words))
 

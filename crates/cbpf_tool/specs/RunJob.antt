@@ -5,7 +5,7 @@ use Rattle.std.specs.Option.{option_map}
 use Rattle.cbpf_command_line.specs.declared.job.Job.{Job}
 use Rattle.cbpf_command_line.specs.declared.job.Job.TheVariants.{Asm, Dbg}
 use Rattle.cbpf_tool.specs.Hosted.{Hosted}
-use Rattle.cbpf_tool.specs.Jobs.{AsmJob, DbgJob}
+use Rattle.cbpf_tool.specs.Jobs.{AsmDone, DbgDone}
 use Rattle.cbpf_tool.specs.Remarks.{lacks_packets}
 use Rattle.cbpf_tool.specs.WhyJobs.{WhyDone}
 use Rattle.cbpf_tool.specs.declared.failure.Failure.{Failure}
@@ -17,9 +17,9 @@ use Rattle.cbpf_tool.specs.declared.why_failure.WhyFailure.TheVariants as why_fa
 
 -- a job was done, with the names that it has
 abbrev pub JobDone : Hosted → Hosted → Job → Result (Unit {0}) Failure → Type 0
-JobDone old new (Asm form file) r = AsmJob old new form (option_map (λ n. string_bytes n) file) r
+JobDone old new (Asm form file) r = AsmDone old new form (option_map (λ n. string_bytes n) file) r
 JobDone old new (Dbg input output) r =
-    DbgJob old new (option_map (λ n. string_bytes n) input) (option_map (λ n. string_bytes n) output) r
+    DbgDone old new (option_map (λ n. string_bytes n) input) (option_map (λ n. string_bytes n) output) r
 
 -- the exit status after a job
 abbrev pub status : Result (Unit {0}) Failure → ℕ

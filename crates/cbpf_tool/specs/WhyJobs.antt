@@ -25,7 +25,7 @@ use Rattle.cbpf_tool.specs.declared.failure.Failure.TheVariants.{Tool, CannotOpe
 use Rattle.cbpf_tool.specs.declared.fault.ToolFault.{ToolFault}
 use Rattle.cbpf_tool.specs.declared.fault.ToolFault.TheVariants.{Read, Write, Memory}
 use Rattle.cbpf_tool.specs.Remarks.{AreRemarks}
-use Rattle.cbpf_tool.specs.declared.remarks.Asked.{Asked}
+use Rattle.cbpf_tool.specs.declared.remarks.ReportAsked.{ReportAsked}
 use Rattle.cbpf_tool.specs.declared.remarks.Remarks.{Remarks}
 use Rattle.cbpf_tool.specs.declared.request.WhyJob.{WhyJob}
 use Rattle.cbpf_tool.specs.declared.why_failure.WhyFailure.{WhyFailure}
@@ -53,8 +53,8 @@ SaysOf report ranges name None None = Unit {0}
 SaysOf report ranges name (Some end) (Some remarks) = AreRemarks report ranges name end remarks
 SaysOf report ranges name _ _ = ⊥
 
--- the end of a report on the capture of this name as that of the job: where the capture was read to its end, there is
--- what is to be said of it
+-- the result of a report on the capture of this name, as the result of the job: its remarks where the capture was read
+-- to its end, none where it wasn't, or the failure for its fault
 abbrev pub IsReported : Report → List PacketRange → Option (List ℕ) → Result (Option CaptureEnd) WhyFault
     → Result (Option Remarks) WhyFailure → Type 0
 IsReported report ranges name (Ok end) (Ok remarks) = SaysOf report ranges name end remarks
@@ -78,7 +78,7 @@ IsProgram name text (Err (failure.Read n)) = string_bytes n ≡ name
 IsProgram name text (Err (failure.Job (Tool Memory))) = Unit {0}
 IsProgram name text (Err _) = ⊥
 
--- the file of this name could not be opened
+-- the file of this name could not be opened: what `EndsWithoutFile` says of one, for the failures of `why`
 pub record NotOpened {X : Type 0} (old new : Hosted) (name : List ℕ) (r : Result X WhyFailure) : Type 0 where
   pub failure : WhyFailure
   pub is_err : r ≡ Err failure
@@ -93,24 +93,24 @@ OpensFilter old new name r = NotOpened old new name r
 
 -- ---- the report
 
--- what is asked: which report of which packets, of a program with values
+-- what is asked: which report of which packets, of a program with values. It is what a `Question` of cbpf_why says
 pub record Query : Type 0 where
   pub report : Report
   pub ranges : List PacketRange
   pub machine : Machine
 
-abbrev pub query_of : List Insn → Asked → Query
+abbrev pub query_of : List Insn → ReportAsked → Query
 query_of p a = record { report = a.report; ranges = a.packets.items; machine = machine_of p a.values }
 
--- a report on a capture is the one text that was printed, whose end is the job's; or there was no room for a buffer,
--- and nothing was printed
+-- a report on a capture is the one text that was printed, and its result is the job's; or there was no room for a
+-- buffer, and nothing was printed
 pub data PrintsReport (old new : Hosted) (q : Query) (name : Option (List ℕ)) (c : Savefile)
     (r : Result (Option Remarks) WhyFailure) : Type 0 where
   no_room : new ≡ without_output old → r ≡ Err (failed Memory) → PrintsReport old new q name c r
-  prints : (text : List ℕ) (count : ℕ) (end : Result (Option CaptureEnd) WhyFault)
+  prints : (text : List ℕ) (count : ℕ) (done : Result (Option CaptureEnd) WhyFault)
       → new ≡ and_then (without_output old) (printed text ∷ [])
-      → Reported q.report q.ranges q.machine c count (Some []) (Some text) end
-      → IsReported q.report q.ranges name end r → PrintsReport old new q name c r
+      → Reported q.report q.ranges q.machine c count (Some []) (Some text) done
+      → IsReported q.report q.ranges name done r → PrintsReport old new q name c r
 
 -- the fault of a header, with the capture's name where it is a file
 abbrev pub IsHeaderFailure : Option (List ℕ) → HeaderFault → WhyFailure → Type 0

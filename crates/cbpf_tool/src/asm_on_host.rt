@@ -3,7 +3,7 @@
 ghost use Rattle.std.specs.Prelude.{◌≡◌, ℕ, List, [], Some, string_bytes};
 ghost use Rattle.std.specs.Option.{option_map};
 ghost use Rattle.cbpf_tool.specs.Hosted.{IsReady, printed, without_output};
-ghost use Rattle.cbpf_tool.specs.Jobs.{AsmJob, AssembledTo, Ends};
+ghost use Rattle.cbpf_tool.specs.Jobs.{AsmDone, AssembledTo, RanOnce};
 
 use crate::assembler::asm;
 use crate::failure::{Failure, tooled};
@@ -21,7 +21,7 @@ fn assemble_from<A: Allocator, H: Host, I: Read>(
     form: Form,
 ) -> Result<(), ToolFault>
     ensures { IsReady (H.view host.old) → (source : List ℕ) → I.remaining reader.old ≡ Some source →
-        Ends (without_output (H.view host.old)) (H.view host.new) printed (AssembledTo source form) result }
+        RanOnce (without_output (H.view host.old)) (H.view host.new) printed (AssembledTo source form) result }
 {
     let Ok(mut writer) = host.output() else {
         return Err(ToolFault::Memory);
@@ -38,7 +38,7 @@ pub fn asm_job<A: Allocator, H: Host>(
     form: Form,
     file: Option<String>,
 ) -> Result<(), Failure>
-    ensures { IsReady (H.view host.old) → AsmJob (H.view host.old) (H.view host.new) form
+    ensures { IsReady (H.view host.old) → AsmDone (H.view host.old) (H.view host.new) form
         (option_map (λ n. string_bytes n) file) result }
 {
     match file {

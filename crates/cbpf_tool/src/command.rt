@@ -175,7 +175,7 @@ fn value_by(text: &[u8]) -> Option<Command<'_>>
 }
 
 fn words_in(text: &[u8]) -> Option<Command<'_>>
-    ensures { result ≡ spec.words_in text.now }
+    ensures { result ≡ spec.load_words_by text.now }
 {
     if text.is_empty() {
         return None;
@@ -184,7 +184,7 @@ fn words_in(text: &[u8]) -> Option<Command<'_>>
 }
 
 fn name_in(text: &[u8]) -> Option<Command<'_>>
-    ensures { result ≡ spec.name_in text.now }
+    ensures { result ≡ spec.load_capture_by text.now }
 {
     if text.is_empty() {
         return None;

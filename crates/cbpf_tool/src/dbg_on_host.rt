@@ -3,7 +3,7 @@
 ghost use Rattle.std.specs.Prelude.{◌≡◌, ℕ, IsTrue, List, [], None, Some, string_bytes};
 ghost use Rattle.std.specs.Option.{option_map};
 ghost use Rattle.cbpf_tool.specs.Hosted.{IsReady, printed, without_output};
-ghost use Rattle.cbpf_tool.specs.Jobs.{DbgJob, DebuggedTo, Ends, RepliesTo};
+ghost use Rattle.cbpf_tool.specs.Jobs.{DbgDone, DebuggedTo, RanOnce, RepliesTo};
 
 use crate::debugger::debug;
 use crate::failure::{Failure, tooled};
@@ -34,7 +34,8 @@ fn debug_to_output<A: Allocator, H: Host, I: Read>(
     reader: &mut I,
 ) -> Result<(), ToolFault>
     ensures { IsReady (H.view host.old) → (script : List ℕ) → I.remaining reader.old ≡ Some script →
-        Ends (without_output (H.view host.old)) (H.view host.new) printed (DebuggedTo (H.view host.old) script) result }
+        RanOnce (without_output (H.view host.old)) (H.view host.new) printed
+        (DebuggedTo (H.view host.old) script) result }
 {
     let Ok(mut writer) = host.output() else {
         return Err(ToolFault::Memory);
@@ -88,7 +89,7 @@ fn debug_input<A: Allocator, H: Host>(
     host: &mut H,
     output: Option<String>,
 ) -> Result<(), Failure>
-    ensures { IsReady (H.view host.old) → DbgJob (H.view host.old) (H.view host.new) None
+    ensures { IsReady (H.view host.old) → DbgDone (H.view host.old) (H.view host.new) None
         (option_map (λ n. string_bytes n) output) result }
 {
     let mut reader = host.input();
@@ -102,7 +103,7 @@ pub fn dbg_job<A: Allocator, H: Host>(
     input: Option<String>,
     output: Option<String>,
 ) -> Result<(), Failure>
-    ensures { IsReady (H.view host.old) → DbgJob (H.view host.old) (H.view host.new)
+    ensures { IsReady (H.view host.old) → DbgDone (H.view host.old) (H.view host.new)
         (option_map (λ n. string_bytes n) input) (option_map (λ n. string_bytes n) output) result }
 {
     match input {

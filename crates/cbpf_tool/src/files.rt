@@ -1,6 +1,6 @@
 //! Where the debugger's files come from.
 
-ghost use Rattle.cbpf_tool.specs.FileMap.{Source};
+ghost use Rattle.cbpf_tool.specs.FileMap.{FileSource};
 ghost use Rattle.cbpf_tool.specs.Loads.{Loads};
 
 use cbpf_reply::LoadFault;
@@ -12,7 +12,7 @@ use std::alloc::Allocator;
 /// `counts_exactly` counts one failure at each `Device` and none at anything else.
 pub trait Files {
     /// The files, the count of failures, and whether the source says what it holds.
-    ghost source: { Self → Source };
+    ghost source: { Self → FileSource };
 
     fn load<A: Allocator>(&mut self, alloc: A, name: &str) -> Result<Vec<u8, A>, LoadFault>
         ensures { Loads (λ v. v.items) (source self.old) (source self.new) name.now result };

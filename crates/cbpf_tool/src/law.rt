@@ -1,14 +1,14 @@
 //! Laws of the definitions, which hold whatever a program does.
 
-ghost use Rattle.cbpf_tool.specs.Laws.{OneOutput, HasOutput, OwnIsOutput, NoOther};
+ghost use Rattle.cbpf_tool.specs.Laws.{OneOwnOutput, HasOwnOutput, OwnIsOutput, NoOther};
 ghost use Rattle.cbpf_tool.specs.Totals.{SameTotals};
 
 /// A script has exactly one output where no growth is refused and no file fails, whatever it says and
 /// whatever the files hold; it is one of its outputs, by which no failure is counted. An output in
 /// which neither `error: out of memory` nor F2 stands is that one.
 pub fn one_output()
-    ensures output { OneOutput }
-    ensures some_output { HasOutput }
+    ensures output { OneOwnOutput }
+    ensures some_output { HasOwnOutput }
     ensures is_output { OwnIsOutput }
     ensures no_other { NoOther }
 {}

@@ -14,9 +14,9 @@ use cbpf_why::{CaptureEnd, PacketRange, Report};
 use pcap_classic::Ending;
 use std::io::Write;
 
-/// What is asked of a program on a capture.
+/// Which report is asked for, with which values of extensions, and on which packets.
 #[derive(Debug, Drop)]
-pub(crate) struct Asked {
+pub(crate) struct ReportAsked {
     pub(crate) report: Report,
     pub(crate) values: Values,
     /// Which packets are looked at, sorted; where the list is empty, it is all.
@@ -51,7 +51,7 @@ impl Remarks {
 }
 
 /// How a capture ends, where the report doesn't say it.
-fn unsaid_ending(asked: &Asked, ending: Ending) -> Option<Ending>
+fn unsaid_ending(asked: &ReportAsked, ending: Ending) -> Option<Ending>
     ensures { result ≡ spec.unsaid_ending asked.now.report asked.now.packets.items ending }
 {
     if matches!(asked.report, Report::Summary) && asked.packets.is_empty() {
@@ -62,7 +62,7 @@ fn unsaid_ending(asked: &Asked, ending: Ending) -> Option<Ending>
 }
 
 /// What is to be said of a report on the capture of this name, which was read to this end.
-pub(crate) fn remarks_of(asked: Asked, name: Option<String>, end: CaptureEnd) -> Remarks
+pub(crate) fn remarks_of(asked: ReportAsked, name: Option<String>, end: CaptureEnd) -> Remarks
     ensures { spec.AreRemarks asked.report asked.packets.items (option_map (λ n. string_bytes n) name) end result }
 {
     let ending = unsaid_ending(&asked, end.ending);

@@ -24,7 +24,7 @@ pub struct WhyJob {
     pub values: Values,
     /// The name of the filter's file.
     pub filter: String,
-    /// The name of the capture; without one it is the standard input.
+    /// The name of the capture; without one, or with `-`, it is the standard input.
     pub capture: Option<String>,
     /// Which packets are looked at, sorted; where the list is empty, it is all.
     pub packets: Vec<PacketRange>,

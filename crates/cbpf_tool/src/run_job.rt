@@ -1,4 +1,4 @@
-//! What a command line asks for.
+//! Doing what a command line asks for, and the status with which the program ends.
 
 ghost use Rattle.std.specs.Prelude.{◌≡◌};
 ghost use Rattle.cbpf_tool.specs.Hosted.{IsReady};

@@ -6,7 +6,7 @@ ghost use Rattle.cbpf_tool.specs.WhyJobs as spec;
 
 use crate::failure::Failure;
 use crate::fault::ToolFault;
-use crate::remarks::{Asked, Remarks, remarks_of};
+use crate::remarks::{Remarks, ReportAsked, remarks_of};
 use cbpf_why::{CaptureEnd, FilterFault, WhyFault};
 use pcap_classic::HeaderFault;
 use thiserror::Error;
@@ -60,7 +60,7 @@ fn report_failure(fault: WhyFault, name: Option<String>) -> WhyFailure
 }
 
 /// What is to be said of a report on the capture of this name, where it was read to its end.
-fn said_of(asked: Asked, end: Option<CaptureEnd>, name: Option<String>) -> Option<Remarks>
+fn said_of(asked: ReportAsked, end: Option<CaptureEnd>, name: Option<String>) -> Option<Remarks>
     ensures { spec.SaysOf asked.report asked.packets.items (option_map (λ n. string_bytes n) name) end result }
 {
     Some(remarks_of(asked, name, end?))
@@ -69,7 +69,7 @@ fn said_of(asked: Asked, end: Option<CaptureEnd>, name: Option<String>) -> Optio
 /// The end of a report on the capture of this name as that of the job.
 pub(crate) fn reported(
     done: Result<Option<CaptureEnd>, WhyFault>,
-    asked: Asked,
+    asked: ReportAsked,
     name: Option<String>,
 ) -> Result<Option<Remarks>, WhyFailure>
     ensures { spec.IsReported asked.report asked.packets.items (option_map (λ n. string_bytes n) name) done result }

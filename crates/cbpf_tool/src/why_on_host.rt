@@ -11,7 +11,7 @@ use crate::assembler::read_source;
 use crate::failure::Failure;
 use crate::fault::ToolFault;
 use crate::host::Host;
-use crate::remarks::{Asked, Remarks};
+use crate::remarks::{Remarks, ReportAsked};
 use crate::request::WhyJob;
 use crate::why_failure::{WhyFailure, failed, read_failure, reported};
 use cbpf_code::Program;
@@ -77,7 +77,7 @@ fn print_report<A: Allocator + Copy, P: Allocator, H: Host, R: Read>(
     alloc: A,
     host: &mut H,
     program: &Program<P>,
-    asked: Asked,
+    asked: ReportAsked,
     reader: &mut CaptureReader<R, A>,
     name: Option<String>,
 ) -> Result<Option<Remarks>, WhyFailure>
@@ -106,7 +106,7 @@ fn report_on<A: Allocator + Copy, P: Allocator, H: Host, R: Read + Drop>(
     alloc: A,
     host: &mut H,
     program: &Program<P>,
-    asked: Asked,
+    asked: ReportAsked,
     reader: R,
     name: Option<String>,
 ) -> Result<Option<Remarks>, WhyFailure>
@@ -129,7 +129,7 @@ fn report_on_input<A: Allocator + Copy, P: Allocator, H: Host>(
     alloc: A,
     host: &mut H,
     program: &Program<P>,
-    asked: Asked,
+    asked: ReportAsked,
 ) -> Result<Option<Remarks>, WhyFailure>
     requires sorted { AreSorted asked.packets.items }
     ensures { IsReady (H.view host.old) →
@@ -144,7 +144,7 @@ fn report_on_file<A: Allocator + Copy, P: Allocator, H: Host>(
     alloc: A,
     host: &mut H,
     program: &Program<P>,
-    asked: Asked,
+    asked: ReportAsked,
     name: String,
 ) -> Result<Option<Remarks>, WhyFailure>
     requires sorted { AreSorted asked.packets.items }
@@ -175,7 +175,7 @@ fn report_by_name<A: Allocator + Copy, P: Allocator, H: Host>(
     alloc: A,
     host: &mut H,
     program: &Program<P>,
-    asked: Asked,
+    asked: ReportAsked,
     capture: Option<String>,
 ) -> Result<Option<Remarks>, WhyFailure>
     requires sorted { AreSorted asked.packets.items }
@@ -194,8 +194,9 @@ fn report_by_name<A: Allocator + Copy, P: Allocator, H: Host>(
 ///
 /// # Errors
 ///
-/// `Job` where a file can't be opened, a read or a write failed, or memory ran out; `Filter` where the filter is
-/// refused; `Capture` or `Input` where the header of the capture is.
+/// `Read` where a file could not be read; `Job` where a file can't be opened, the standard input could not be read, a
+/// write failed, or memory ran out; `Filter` where the filter is refused; `Capture` or `Input` where the header of the
+/// capture is.
 pub fn why_job<A: Allocator + Copy, H: Host>(
     alloc: A,
     host: &mut H,
@@ -212,7 +213,7 @@ pub fn why_job<A: Allocator + Copy, H: Host>(
         packets,
     } = job;
     let program = open_filter(alloc, host, filter)?;
-    let asked = Asked {
+    let asked = ReportAsked {
         report,
         values,
         packets,
