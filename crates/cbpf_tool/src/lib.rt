@@ -49,5 +49,5 @@ pub use run_job::{request_status, run_on, run_request, status_of};
 pub use why_failure::WhyFailure;
 pub use why_on_host::why_job;
 
-/// How many bytes are read at once, at most.
-pub(crate) const READ_SIZE: usize = 4096;
+/// How many bytes are read at once, at most. A session that starts clears so many.
+pub(crate) const READ_SIZE: usize = 2048;
