@@ -79,7 +79,7 @@ details_in rows = filter (λ d. is_set (flag_of d) rows) (Listing ∷ Graph ∷ 
 abbrev pub conflict_in : List Row → Kinds
 conflict_in rows = if nat_lt 1 (length (details_in rows)) then ArgumentConflict ∷ [] else []
 
--- the fault of a word that is given for an argument
+-- the fault of a word that is refused for its argument
 abbrev pub word_faults : Kinds
 word_faults = ValueValidation ∷ []
 
@@ -141,7 +141,8 @@ abbrev pub request_meaning : RequestWords → Requested
 request_meaning (request.Job j) = job (meaning j)
 request_meaning (request.Why w) = why (why_meaning w)
 
--- a line that doesn't name `why` gets the answer of the program without `why`
+-- a line that doesn't name `why` asks for the same job as without `why`, or has a fault of one of the kinds that it has
+-- there; the texts of faults may differ, as the help lists `why`
 abbrev pub AnswersAsWithoutWhy : List Text → Result RequestWords LineFault → Type 0
 AnswersAsWithoutWhy words result = names_why words ≡ false
     → MatchResult result (λ r. (request_meaning r ≡ job (asked_for words)) × (faults_in words ≡ []))

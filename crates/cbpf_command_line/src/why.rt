@@ -281,7 +281,8 @@ fn request_of(alloc: Global, words: &[String]) -> Result<RequestWords, LineFault
 }
 
 /// What the words of a command line ask for, of which the first is the program's own name. Words that don't name `why`
-/// are answered as [`command_line`](crate::command_line) answers them.
+/// ask for the same job as by [`command_line`](crate::command_line), or have a fault of one of the kinds that they have
+/// there. Its text may differ, as the help lists `why`.
 ///
 /// # Errors
 ///

@@ -27,7 +27,8 @@ pub record Took (bytes pending : List ℕ) (left : Option (List ℕ)) (taken : L
   pub split : bytes ≡ taken ++ rest
   pub known : unread pending left ≡ Some rest
 
--- there is a byte to take; there is none, and the reader is at its end; or none could be read
+-- what is unread is still all of the bytes, of which `fill` says by itself that one can be taken; there is none, and the
+-- reader is at its end; or none could be read
 abbrev pub Fills : List ℕ → List ℕ → Option (List ℕ) → Result Bool ToolFault → Type 0
 Fills bytes pending left (Ok true) = unread pending left ≡ Some bytes
 Fills bytes pending left (Ok false) = (bytes ≡ []) × (left ≡ Some [])

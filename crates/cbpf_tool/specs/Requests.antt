@@ -70,7 +70,7 @@ abbrev pub with_given : Values → Option (Ext × ℕ) → Values
 with_given values None = values
 with_given values (Some v) = with_value values v.0 v.1
 
--- the values that words give, of which a later one stands for an earlier one of the same extension
+-- the values that words give; a later one replaces an earlier one of the same extension
 abbrev pub values_by : List (List ℕ) → Values
 values_by words = fold (λ values word. with_given values (value_in word)) no_values words
 

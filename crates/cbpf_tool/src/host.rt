@@ -20,8 +20,9 @@ pub enum CreateFault {
     Memory,
 }
 
-/// Files by name, standard streams, and what was done with them. Where the machine says what it holds, each
-/// call is an event after the earlier ones.
+/// Files by name, standard streams, and what was done with them. Where the machine says what it holds, each file that is
+/// opened, created or written, and each text that is printed, is an event after the earlier ones. To ask for a stream or
+/// for the disk is no event.
 pub trait Host {
     ghost view: { Self → Hosted };
 

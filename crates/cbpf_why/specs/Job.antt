@@ -86,7 +86,7 @@ Closed old new (Err Read) text = ⊥
 abbrev pub IsOver : Option Savefile → Reading → Type 0
 IsOver old new = IfSome old (λ _. IfSome new.left (λ s. (s.records ≡ []) × (new.ended ≡ Some s.ending)))
 
--- the end of a capture that is known was reached before the end of a range
+-- where fewer packets were read than the range ends at, the end of the capture was reached, if the capture is known
 abbrev pub EndsBefore : PacketRange → ℕ → Reading → Reading → Type 0
 EndsBefore range after old new = after < range.last → IsOver old.left new
 
@@ -127,7 +127,7 @@ LeavesKnown before (Some s) new one = (rest : Savefile) × (new ≡ Some rest)
     × (s ≡ record rest { records = one ++ rest.records })
     × ((r : Record) → slice_get one 0 ≡ Some r → r.number ≡ before + 1)
 
--- a record was read and taken, or there was none
+-- a record was read, and taken where its number isn't below `first`; or there was none
 pub record Stepped {A P : Type 0} (q : Question P) (first : ℕ) (records : List Record) (old new : Reading) (c : Counted A)
     (w v : Option (List ℕ)) (has_more : Bool) : Type 0 where
   pub one : List Record
@@ -150,7 +150,7 @@ pub record StepFault {P : Type 0} (q : Question P) (first : ℕ) (old new : Read
 
 -- ---- packets of several ranges
 
--- of a capture the first records were read, and of these those are that are looked at
+-- of a capture the first `count` records were read, and `records` are those of them that are looked at
 pub record Looked (ranges : List PacketRange) (s rest : Savefile) (count : ℕ) (records : List Record) : Type 0 where
   pub front : List Record
   pub split : s ≡ record rest { records = front ++ rest.records }
