@@ -32,7 +32,7 @@ AllowedAt list i = InsnAt list i (λ op insn. IsAllowed op insn i (length list))
 pub record PassesBefore (list : List Insn) (m : ℕ) : Type 0 where
   pub none : (e : CheckFault) → IsEarlier e (UnknownCode m) → HasFault list e → ⊥
 
--- no fault of a rank below that of paths is there, so that each path ends at a return
+-- no fault but C10, which has rank 4, is there, so that each path ends at a return
 pub record IsWellFormed (list : List Insn) : Type 0 where
   pub few : length list ≤ MAX_INSTRUCTIONS
   pub none : (e : CheckFault) → rank e < 4 → HasFault list e → ⊥

@@ -272,8 +272,8 @@ abbrev pub turns_in : View → Machine → List Record → RunReply × View → 
 turns_in m machine capture (Finished n, after) = turns_to_end machine capture m.place
 turns_in m machine capture (_, after) = turns_between machine capture m.place after.place
 
--- the turns of `run`, and of `step` forward: one for each entry at its place or after it that is before the place where
--- it ends; 0 after a refusal
+-- the turns of `run`, and of `step` forward: one for each entry at its place or after it that is before the place where it
+-- stops or comes to its limit; where it finishes, one for each of them; 0 after a refusal
 abbrev pub turns_forward : View → Answer RunReply → ℕ
 turns_forward m answer =
     result_unwrap_or (where_loaded m (λ machine capture. result_map_both (turns_in m machine capture) (λ e. e) answer)) 0

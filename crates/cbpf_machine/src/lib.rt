@@ -3,8 +3,8 @@
 //!
 //! The instructions of Linux Documentation/networking/filter ("BPF engine and instruction set") and
 //! bpf(4) ("FILTER MACHINE") do what these say. All else is this project's own: so a shift by 32 or
-//! more gives 0, and a load from an extension's number gives the value that the extension was given, or
-//! ends the packet's run as `Unknown` where it has none.
+//! more gives 0, and an absolute load from an extension's number gives the value that the extension was
+//! given, or ends the packet's run as `Unknown` where it has none.
 #![tactic(auto)]
 
 mod arithmetic;

@@ -60,7 +60,8 @@ pub enum RunReply {
     Finished(Counts),
 }
 
-/// Why a command was refused. The session is then as it was.
+/// Why a command was refused. The session is then as it was, but for `Memory` of a run to the end, which leaves it at the
+/// last stop found.
 #[derive(Clone, Copy, Debug, PartialEq, Eq)]
 pub enum SessionFault {
     /// S1: no program is loaded.

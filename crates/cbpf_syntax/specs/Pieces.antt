@@ -20,10 +20,12 @@ use Rattle.cbpf_syntax.specs.Numbers.{number_value, number_limit}
 abbrev pub is_line_blank : List ℕ → Bool
 is_line_blank text = fold (λ blank b. b == 10 || (blank && is_blank b)) true text
 
+-- the kind, where no byte is left
 abbrev pub alone : List ℕ → PieceKind → Option PieceKind
 alone [] kind = Some kind
 alone (b ∷ bs) kind = None
 
+-- the kind, where the test holds
 abbrev pub only_if : Bool → PieceKind → Option PieceKind
 only_if true kind = Some kind
 only_if false kind = None

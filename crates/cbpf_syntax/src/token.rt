@@ -1,4 +1,4 @@
-//! Tokens, and what is reported of a text with a piece that is none.
+//! Tokens, and what is reported of a text with a bad piece.
 
 use std::alloc::AllocFailed;
 

@@ -54,7 +54,7 @@ abbrev pub AreSet : List (Lexeme × ℕ) → Option ℕ → (Name → Option ℕ
 AreSet labels None look = Resolves labels look × (first_repeat labels ≡ None)
 AreSet labels (Some at) look = first_repeat labels ≡ Some at
 
--- the statements and labels are those of the items, and of the words of labels after them that wait for theirs
+-- the statements and labels are those of the items, and of the words of labels after them that wait for their item
 pub record IsKept (statements : List Statement) (repeat : Option ℕ) (look : Name → Option ℕ)
     (items : List Item) (waiting : List Lexeme) : Type 0 where
   pub same : AreStatements statements items

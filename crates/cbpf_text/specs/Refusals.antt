@@ -27,7 +27,8 @@ bad_piece_kind pieces.NoToken = kinds.NoToken
 bad_piece_kind pieces.OpenComment = kinds.OpenComment
 bad_piece_kind pieces.LargeNumber = kinds.LargeNumber
 
--- a label in an operand, with its item's index, and whether the jump is conditional
+-- a label in an operand, with the index of the item in whose operand it stands, and whether that item is a conditional
+-- jump
 pub record Use : Type 0 where
   pub index : ℕ
   pub target : Lexeme

@@ -22,7 +22,7 @@ pub(crate) fn asm_fault(fault: LexFault) -> AsmFault
 ///
 /// # Errors
 ///
-/// `At`: the first piece of the text that is no token, with its line. `Memory`: the allocator refused,
+/// `At`: the first bad piece of the text, with its line. `Memory`: the allocator refused,
 /// whatever the text is.
 pub fn tokens<A: Allocator>(alloc: A, text: &[u8]) -> Result<Vec<Token, A>, AsmFault>
     ensures lexed { IfOk result (λ v. Lexes text.now v.items) }

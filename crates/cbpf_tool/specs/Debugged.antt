@@ -19,7 +19,8 @@ pub record Printed (script : List ℕ) (before after : FileSource) : Type 0 wher
 
 -- after a read that failed: the output of the lines whose newline was read, of which none is `quit`; after them a
 -- part of a line was read. After a write that failed: a beginning of the output of the first lines. Out of memory:
--- the output of the lines before the one that could not be held, of which none is `quit`
+-- the output of the lines before the one that could not be held, of which none is `quit`. `left` is what the reader has
+-- left, and `old` and `new` are what the writer held and holds.
 abbrev pub Faulted : List ℕ → Option (List ℕ) → Option (List ℕ) → Option (List ℕ) → FileSource → FileSource
     → ToolFault → Type 0
 Faulted script left old new before after Read =

@@ -44,7 +44,7 @@ without_output h = record h { has_output = false }
 abbrev pub IsReady : Hosted → Type 0
 IsReady h = IsTrue h.is_known × IsTrue h.has_output
 
--- a file was opened, and all its bytes can be read, or it could not be opened
+-- a file was opened, and all its bytes are still to be read; or it could not be opened
 abbrev pub Opens : {V E : Type 0} → (V → Option (List ℕ)) → Hosted → Hosted → List ℕ → Result V E → Type 0
 Opens remaining old new name (Ok v) = (bytes : List ℕ) × (map.get old.files name ≡ Some bytes)
     × (remaining v ≡ Some bytes) × (new ≡ and_then old (opened name ∷ []))

@@ -59,6 +59,7 @@ extension_value word =
     option_and_then (λ ends. by_both (λ e n. (e, n)) (ext_named ends.0) (number_up_to (2 ^ 32 - 1) ends.1))
     (split_once 61 word)
 
+-- a given value, where the extension takes one
 abbrev pub where_taken : Ext × ℕ → Option (Ext × ℕ)
 where_taken v = if takes_value v.0 then Some v else None
 

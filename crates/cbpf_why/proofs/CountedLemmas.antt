@@ -15,7 +15,7 @@ use Rattle.cbpf_machine.specs.declared.outcome.End.{End}
 use Rattle.cbpf_machine.specs.declared.outcome.End.TheVariants.{Returned, Outside, ZeroDivisor, Unknown}
 use Rattle.pcap_classic.specs.Records.{Record}
 use Rattle.cbpf_why.specs.Ends.{end_by, ended, ended_at, ends_of}
-use Rattle.cbpf_why.specs.Job.{Tallies, Took, shows_groups, shows_runs, where_shown}
+use Rattle.cbpf_why.specs.Job.{Tallies, Took, counts_groups, counts_runs, where_counted}
 use Rattle.cbpf_why.specs.Question.{machine_in}
 use Rattle.cbpf_why.specs.Runs.{executed, taken}
 
@@ -60,13 +60,13 @@ tallies-more old new m records r had packets long ran held = record {
 
 -- what is counted where a report shows nothing of it
 module _ {A P : Type 0} (q : Question P) where
-  pub took-none : (c : Counted A) (records more : List Record) → shows_groups q.report ≡ false → shows_runs q.report ≡ false
+  pub took-none : (c : Counted A) (records more : List Record) → counts_groups q.report ≡ false → counts_runs q.report ≡ false
       → Took q c records → Took q c more
   took-none c records more g s t = record { groups = rw g (rw g at t.groups); runs = rw s (rw s at t.runs) }
 
   -- a packet more in the groups
-  pub took-groups : (old new : Counted A) (records : List Record) (r : Record) → shows_groups q.report ≡ true
-      → shows_runs q.report ≡ false → Took q old records → new.tally ≡ old.tally
+  pub took-groups : (old new : Counted A) (records : List Record) (r : Record) → counts_groups q.report ≡ true
+      → counts_runs q.report ≡ false → Took q old records → new.tally ≡ old.tally
       → Keeps new.groups (length q.program.now) (ends_of (machine_in q) records ++ ended (machine_in q) r ∷ [])
       → Took q new (records ++ r ∷ [])
   took-groups old new records r g s t same keeps = record {
@@ -75,8 +75,8 @@ module _ {A P : Type 0} (q : Question P) where
   }
 
   -- and in the tally
-  pub took-both : (new : Counted A) (records : List Record) (r : Record) → shows_groups q.report ≡ true
-      → shows_runs q.report ≡ true
+  pub took-both : (new : Counted A) (records : List Record) (r : Record) → counts_groups q.report ≡ true
+      → counts_runs q.report ≡ true
       → Keeps new.groups (length q.program.now) (ends_of (machine_in q) records ++ ended (machine_in q) r ∷ [])
       → Tallies new.tally (machine_in q) (records ++ r ∷ []) → Took q new (records ++ r ∷ [])
   took-both new records r g s keeps tallies = record {
@@ -85,11 +85,11 @@ module _ {A P : Type 0} (q : Question P) where
   }
 
   -- what was kept of the records, where it is shown
-  pub groups_shown : (c : Counted A) (records : List Record) → shows_groups q.report ≡ true → Took q c records
+  pub groups_shown : (c : Counted A) (records : List Record) → counts_groups q.report ≡ true → Took q c records
       → Keeps c.groups (length q.program.now) (ends_of (machine_in q) records)
   groups_shown c records g t = rw g at t.groups
 
-  pub runs_shown : (c : Counted A) (records : List Record) → shows_runs q.report ≡ true → Took q c records
+  pub runs_shown : (c : Counted A) (records : List Record) → counts_runs q.report ≡ true → Took q c records
       → Tallies c.tally (machine_in q) records
   runs_shown c records s t = rw s at t.runs
 
@@ -101,10 +101,10 @@ length-ends m (x ∷ xs) = let rest = length-ends m xs in omega (arith, rest)
 pub took-nothing : {A P : Type 0} (q : Question P) (c : Counted A) → Keeps c.groups (length q.program.now) []
     → Tallies c.tally (machine_in q) [] → Took q c []
 took-nothing q c keeps tallies = record {
-  groups = rw (none (shows_groups q.report)) keeps;
-  runs = rw (none (shows_runs q.report)) tallies;
+  groups = rw (none (counts_groups q.report)) keeps;
+  runs = rw (none (counts_runs q.report)) tallies;
 }
   where
-    none : (b : Bool) → where_shown b [] ≡ []
+    none : (b : Bool) → where_counted b [] ≡ []
     none true = refl
     none false = refl

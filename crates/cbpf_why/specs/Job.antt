@@ -21,24 +21,25 @@ use Rattle.cbpf_code.specs.Writing.{Appended, AppendedPart}
 use Rattle.cbpf_why.specs.declared.job.WhyFault.{WhyFault}
 use Rattle.cbpf_why.specs.declared.job.WhyFault.TheVariants.{Read, Write, Memory}
 
--- the reports that show groups, and those that show how often instructions ran
-abbrev pub shows_groups : Report → Bool
-shows_groups Summary = true
-shows_groups Coverage = true
-shows_groups Graph = true
-shows_groups Ways = false
-shows_groups Packets = false
+-- the reports for which groups of packets are counted, and those for which it is counted how often instructions ran;
+-- `Coverage` shows only the second, but both are counted for it
+abbrev pub counts_groups : Report → Bool
+counts_groups Summary = true
+counts_groups Coverage = true
+counts_groups Graph = true
+counts_groups Ways = false
+counts_groups Packets = false
 
-abbrev pub shows_runs : Report → Bool
-shows_runs Coverage = true
-shows_runs Graph = true
-shows_runs Summary = false
-shows_runs Ways = false
-shows_runs Packets = false
+abbrev pub counts_runs : Report → Bool
+counts_runs Coverage = true
+counts_runs Graph = true
+counts_runs Summary = false
+counts_runs Ways = false
+counts_runs Packets = false
 
 -- the records where they are counted
-abbrev pub where_shown : Bool → List Record → List Record
-where_shown shows records = if shows then records else []
+abbrev pub where_counted : Bool → List Record → List Record
+where_counted counts records = if counts then records else []
 
 -- a tally of a machine on some records
 pub record Tallies (t : CountedRuns) (m : Machine) (records : List Record) : Type 0 where
@@ -48,8 +49,8 @@ pub record Tallies (t : CountedRuns) (m : Machine) (records : List Record) : Typ
 
 -- what is counted of the records that were taken
 pub record Took {A P : Type 0} (q : Question P) (c : Counted A) (records : List Record) : Type 0 where
-  pub groups : Keeps c.groups (length q.program.now) (ends_of (machine_in q) (where_shown (shows_groups q.report) records))
-  pub runs : Tallies c.tally (machine_in q) (where_shown (shows_runs q.report) records)
+  pub groups : Keeps c.groups (length q.program.now) (ends_of (machine_in q) (where_counted (counts_groups q.report) records))
+  pub runs : Tallies c.tally (machine_in q) (where_counted (counts_runs q.report) records)
 
 -- the records of a list whose number isn't below a first one
 abbrev pub from_first : ℕ → List Record → List Record
@@ -69,7 +70,8 @@ abbrev pub TookFromKnown : ℕ → Option Savefile → Option Savefile → ℕ �
 TookFromKnown first None new before after more = Unit {0}
 TookFromKnown first (Some s) new before after more = (rest : Savefile) × (new ≡ Some rest) × TookFrom first s rest before after more
 
--- a fault of a write, or of a read, after some text
+-- after some text: a fault of a write, which leaves a beginning of it; or of a read, or out of memory, which leave all
+-- of it
 abbrev pub Stopped : WhyFault → Option (List ℕ) → Option (List ℕ) → List ℕ → Type 0
 Stopped Write old new text = AppendedPart old new text
 Stopped Read old new text = Appended old new text

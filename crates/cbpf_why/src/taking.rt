@@ -29,7 +29,7 @@ use std::io::{Read, Write};
 
 /// Whether something is written of each packet as it comes.
 fn writes_each(report: Report) -> bool
-    ensures { result ≡ not (spec.shows_groups report) }
+    ensures { result ≡ not (spec.counts_groups report) }
 {
     matches!(report, Report::Ways | Report::Packets)
 }
@@ -92,7 +92,7 @@ fn flush_if_due<R: Read, B: Allocator, W: Write>(
     w: &mut W,
 ) -> Result<(), WhyFault>
     ensures kept { KeepsBytes (W.contents w.old) (W.contents w.new) }
-    ensures counted { spec.shows_groups report ≡ true → result ≡ Ok tt }
+    ensures counted { spec.counts_groups report ≡ true → result ≡ Ok tt }
     ensures fault { IfErr result (λ e. e ≡ fault.Write) }
 {
     if writes_each(report) && !reader.has_next() && w.flush().is_err() {
