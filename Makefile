@@ -57,7 +57,7 @@ export LINKS
 help: ## Lists the targets.
 	@grep -E '^[a-z]+:.*##' Makefile | sed -E 's/:.*## /\t/' | expand -t 12
 
-build: ## Proves and builds the program; from nothing 20 to 40 minutes of processor time, divided among the processors, later less.
+build: ## Proves and builds the program; from nothing 20 to 60 minutes of processor time, divided among the processors, later less.
 	@python3 tools/build.py
 
 demo: ## Proves and builds the program, assembles an example, and debugs a filter of tcpdump over a capture.

@@ -12,7 +12,7 @@ from pathlib import Path
 ROOT = Path(__file__).resolve().parent.parent
 PROGRAM = "cbpf"
 BEFOREHAND = """This proves what isn't proved yet, and builds the program. From nothing, and after `make check`, which keeps
-no proofs, that takes 20 to 40 minutes of processor time, divided among the processors; after a change a few."""
+no proofs, that takes 20 to 60 minutes of processor time, divided among the processors; after a change a few."""
 
 
 def sources():
