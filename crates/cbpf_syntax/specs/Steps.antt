@@ -39,7 +39,7 @@ AreLabels [] = Unit {0}
 AreLabels (t ∷ []) = ⊥
 AreLabels (t ∷ u ∷ ts) = (fits name t.symbol ≡ true) × (fits (the_mark 58) u.symbol ≡ true) × AreLabels ts
 
--- `Ok row`: the row stands at the front, and no longer beginning of an item does. `Err n`: the first n tokens are the
+-- `Ok row`: the row stands at the front, and no beginning of an item there is longer. `Err n`: the first n tokens are the
 -- longest beginning of an item there, and are no item.
 abbrev pub IsFoundInstruction : List Lexeme → Result declared_row.Row ℕ → Type 0
 IsFoundInstruction ts (Ok row) =

@@ -30,8 +30,8 @@ pub enum Step {
     Label,
     /// An instruction, without labels.
     Instruction(Row),
-    /// So many tokens begin an item, an instruction with its labels, and aren't one. The next one
-    /// can't follow them, or there is none.
+    /// So many tokens begin an item, which is an instruction with its labels, but are no item
+    /// themselves. There is no next token, or it can't follow them.
     Stuck(usize),
 }
 
@@ -290,8 +290,8 @@ impl<'a, A: Allocator> Reader<'a, A> {
         self.large
     }
 
-    /// The first refusal, where the first `n` tokens ahead go on towards items. With the next one they don't, or there
-    /// is none and they are no items. Where `n` isn't 0, the first of the `n` tokens is a word, so that no number among
+    /// The first refusal, where the tokens taken and the first `n` ahead begin items. With the next one they don't, or
+    /// there is none and they are no items. Where `n` isn't 0, the first of the `n` tokens is a word, so that no number among
     /// them stands after a `-` that was taken before.
     pub fn fault(&self, n: usize) -> SyntaxFault
         requires within { n ≤ length self.now.tokens }

@@ -8,8 +8,8 @@ use Rattle.std.specs.FinMap as map
 abbrev pub FileMap : Type 0
 FileMap = map.FinMap (slice_cmp nat_cmp) (List ℕ)
 
--- what a source holds, and whether its count of failures rises by one at each load that ends in `Device`, and at
--- nothing else. `Device` is F2: the file could not be read
+-- what a source holds, and whether its count of failures rises by one, up to its greatest value, at each load that ends in
+-- `Device`, and at nothing else. `Device` is F2: the file could not be read
 pub record Held : Type 0 where
   pub by_name : FileMap
   pub counts_exactly : Bool

@@ -27,8 +27,8 @@ pub record Took (bytes pending : List ℕ) (left : Option (List ℕ)) (taken : L
   pub split : bytes ≡ taken ++ rest
   pub known : unread pending left ≡ Some rest
 
--- what is unread is still all of the bytes, of which `fill` says by itself that one can be taken; there is none, and the
--- reader is at its end; or none could be read
+-- `Ok true`: all of the bytes are still unread. `Ok false`: there is none, and the reader is at its end. `Err`: none could be
+-- read, and all are still unread.
 abbrev pub Fills : List ℕ → List ℕ → Option (List ℕ) → Result Bool ToolFault → Type 0
 Fills bytes pending left (Ok true) = unread pending left ≡ Some bytes
 Fills bytes pending left (Ok false) = (bytes ≡ []) × (left ≡ Some [])

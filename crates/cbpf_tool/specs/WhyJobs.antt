@@ -124,8 +124,8 @@ IsOpenFailure name (open_fault.Header fault) e = IsHeaderFailure name fault e
 IsOpenFailure name (open_fault.Read (read_fault.Read x)) e = IsReadFailure name e
 IsOpenFailure name (open_fault.Read read_fault.Memory) e = e ≡ failed Memory
 
--- a report on the capture that has these bytes. Where their header is refused, or could not be read, nothing was printed,
--- and the standard output was not asked for
+-- a report on the capture that has these bytes. Where their header is refused or could not be read, or there was no memory
+-- for it, nothing was printed, and the standard output was not asked for
 pub data ReportsOn (old new : Hosted) (q : Query) (name : Option (List ℕ)) (bytes : List ℕ)
     (r : Result (Option Remarks) WhyFailure) : Type 0 where
   unread : (e : WhyFailure) → new ≡ old → IsReadFailure name e ⊎ (e ≡ failed Memory) → r ≡ Err e

@@ -174,7 +174,7 @@ fn value_by(text: &[u8]) -> Option<Command<'_>>
     }
 }
 
-fn words_in(text: &[u8]) -> Option<Command<'_>>
+fn load_words_by(text: &[u8]) -> Option<Command<'_>>
     ensures { result ≡ spec.load_words_by text.now }
 {
     if text.is_empty() {
@@ -183,7 +183,7 @@ fn words_in(text: &[u8]) -> Option<Command<'_>>
     Some(Command::LoadWords(Text::of(text)))
 }
 
-fn name_in(text: &[u8]) -> Option<Command<'_>>
+fn load_capture_by(text: &[u8]) -> Option<Command<'_>>
     ensures { result ≡ spec.load_capture_by text.now }
 {
     if text.is_empty() {
@@ -200,8 +200,8 @@ fn load_by(text: &[u8]) -> Option<Command<'_>>
 {
     let (kind, rest) = next_word(text)?;
     match kind {
-        b"bpf" => words_in(trimmed(rest)),
-        b"pcap" => name_in(trimmed(rest)),
+        b"bpf" => load_words_by(trimmed(rest)),
+        b"pcap" => load_capture_by(trimmed(rest)),
         _ => None,
     }
 }

@@ -20,9 +20,9 @@ pub enum CreateFault {
     Memory,
 }
 
-/// Files by name, standard streams, and what was done with them. Where the machine says what it holds, each file that is
-/// opened, created or written, and each text that is printed, is an event after the earlier ones. To ask for a stream or
-/// for the disk is no event.
+/// Files by name, standard streams, and what was done with them. Where the machine says what it holds, each `open`,
+/// `create`, `close` and `print` is an event after the earlier ones, also where a file can't be opened or created. The
+/// other calls are no events.
 pub trait Host {
     ghost view: { Self → Hosted };
 

@@ -49,5 +49,5 @@ pub use run_job::{request_status, run_on, run_request, status_of};
 pub use why_failure::WhyFailure;
 pub use why_on_host::why_job;
 
-/// How many bytes are read at once, at most. A session that starts clears so many.
+/// The most bytes of one read. The readers of a source and of a script clear a buffer of this size when they start.
 pub(crate) const READ_SIZE: usize = 2048;

@@ -58,7 +58,7 @@ tallies-more old new m records r had packets long ran held = record {
       ∙ ap (λ (n : ℕ). record { executed = executed m (records ++ r ∷ []) i; taken = n }) t;
 }
 
--- what is counted where a report shows nothing of it
+-- what is kept where a report counts nothing
 module _ {A P : Type 0} (q : Question P) where
   pub took-none : (c : Counted A) (records more : List Record) → counts_groups q.report ≡ false → counts_runs q.report ≡ false
       → Took q c records → Took q c more
@@ -84,14 +84,14 @@ module _ {A P : Type 0} (q : Question P) where
     runs = rw s tallies;
   }
 
-  -- what was kept of the records, where it is shown
-  pub groups_shown : (c : Counted A) (records : List Record) → counts_groups q.report ≡ true → Took q c records
+  -- what was kept of the records, where it is counted
+  pub groups_counted : (c : Counted A) (records : List Record) → counts_groups q.report ≡ true → Took q c records
       → Keeps c.groups (length q.program.now) (ends_of (machine_in q) records)
-  groups_shown c records g t = rw g at t.groups
+  groups_counted c records g t = rw g at t.groups
 
-  pub runs_shown : (c : Counted A) (records : List Record) → counts_runs q.report ≡ true → Took q c records
+  pub runs_counted : (c : Counted A) (records : List Record) → counts_runs q.report ≡ true → Took q c records
       → Tallies c.tally (machine_in q) records
-  runs_shown c records s t = rw s at t.runs
+  runs_counted c records s t = rw s at t.runs
 
 pub length-ends : (m : Machine) (records : List Record) → length (ends_of m records) ≡ length records
 length-ends m [] = refl

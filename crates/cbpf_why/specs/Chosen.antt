@@ -23,7 +23,7 @@ is_chosen (range ∷ ranges) n = list_any (is_within n) (range ∷ ranges)
 abbrev pub chosen : List PacketRange → List Record → List Record
 chosen ranges records = filter (λ r. is_chosen ranges r.number) records
 
--- no range begins before an earlier one begins
+-- each range begins at or after the begins of all that stand before it in the list
 abbrev pub AreSorted : List PacketRange → Type 0
 AreSorted [] = Unit {0}
 AreSorted (range ∷ ranges) = All (λ r. range.first ≤ r.first) ranges × AreSorted ranges

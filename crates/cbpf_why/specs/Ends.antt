@@ -74,7 +74,7 @@ reason_text Outside = codes "outside the packet"
 reason_text ZeroDivisor = codes "division by 0"
 reason_text (Unknown e) = ext_name e ++ codes " has no value"
 
--- the same after other words; nothing of a return, whose value only the text of a `ret #k` shows
+-- the same after other words; nothing for a return, as beside these words only the text of a `ret #k` gives its value
 abbrev pub reason_after : End → List ℕ
 reason_after (Returned v) = []
 reason_after Outside = codes ", outside the packet"

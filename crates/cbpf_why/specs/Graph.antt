@@ -124,6 +124,10 @@ block_head block = concat (node block ∷ codes " [label=<" ∷ [])
 abbrev pub block_end : ℕ → List ℕ
 block_end count = concat (codes ">" ∷ grey_where_none count ∷ codes "]\n" ∷ [])
 
+-- the end of a block, and the ways from its last instruction
+abbrev pub end_and_ways : ℕ → List Insn → ℕ → Facts → List ℕ
+end_and_ways block list i f = block_end f.block_runs ++ edges_of block i f (slice_get list i)
+
 -- an instruction's line; before it the begin of its block, where it is the first one there; and after it the end of the
 -- block and the ways from it, where it is the last one
 abbrev pub block_part : List Insn → ℕ → Facts → List ℕ
@@ -131,7 +135,7 @@ block_part list i f =
     let block = block_of list i in
     (if block == i then block_head block else [])
     ++ (block_line list i f.runs.executed
-    ++ (if is_last list i then block_end f.block_runs ++ edges_of block i f (slice_get list i) else []))
+    ++ (if is_last list i then end_and_ways block list i f else []))
 
 abbrev pub colour : Verdict → List ℕ
 colour Pass = codes "palegreen"

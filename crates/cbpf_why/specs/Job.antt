@@ -88,7 +88,8 @@ Closed old new (Err Read) text = ⊥
 abbrev pub IsOver : Option Savefile → Reading → Type 0
 IsOver old new = IfSome old (λ _. IfSome new.left (λ s. (s.records ≡ []) × (new.ended ≡ Some s.ending)))
 
--- where fewer packets were read than the range ends at, the end of the capture was reached, if the capture is known
+-- where the last packet read has a number below the range's last, the end of the capture was reached, if the capture is
+-- known
 abbrev pub EndsBefore : PacketRange → ℕ → Reading → Reading → Type 0
 EndsBefore range after old new = after < range.last → IsOver old.left new
 

@@ -195,8 +195,7 @@ fn write_ways_out<W: Write, P: Allocator>(
     facts: &Facts,
 ) -> Result<(), WriteFault>
     requires { i < length p.now }
-    ensures { Wrote (W.contents w.old) (W.contents w.new) result
-        (spec.block_end facts.now.block_runs ++ spec.edges_of block i facts.now (slice_get p.now i)) }
+    ensures { Wrote (W.contents w.old) (W.contents w.new) result (spec.end_and_ways block p.now i facts.now) }
 {
     write_closing(w, facts.block_runs)?;
     write_edges(w, u64::from(block), i, p.at_index(i), facts)
@@ -214,8 +213,7 @@ fn write_body<W: Write, P: Allocator>(
 ) -> Result<(), WriteFault>
     requires { i < length p.now }
     ensures { Wrote (W.contents w.old) (W.contents w.new) result (spec.block_line p.now i facts.now.runs.executed
-        ++ (if is_last then spec.block_end facts.now.block_runs
-        ++ spec.edges_of block i facts.now (slice_get p.now i) else [])) }
+        ++ (if is_last then spec.end_and_ways block p.now i facts.now else [])) }
 {
     write_block_line(w, p, i, facts.runs.executed)?;
     if is_last {
@@ -238,8 +236,7 @@ pub(crate) fn write_block_part<W: Write, P: Allocator>(
     requires { i < length p.now }
     ensures { Wrote (W.contents w.old) (W.contents w.new) result
         ((if block == i then spec.block_head block else []) ++ (spec.block_line p.now i facts.now.runs.executed
-        ++ (if is_last then spec.block_end facts.now.block_runs
-        ++ spec.edges_of block i facts.now (slice_get p.now i) else []))) }
+        ++ (if is_last then spec.end_and_ways block p.now i facts.now else []))) }
 {
     if block != i {
         return write_body(w, p, block, i, is_last, facts);

@@ -85,7 +85,7 @@ pub(crate) fn add_ended<P: Allocator, A: Allocator + Copy>(
     counted: &mut Counted<A>,
     record: &Captured<'_>,
 )
-    requires shows { (spec.counts_groups question.now.report ≡ true) × (spec.counts_runs question.now.report ≡ false) }
+    requires counts { (spec.counts_groups question.now.report ≡ true) × (spec.counts_runs question.now.report ≡ false) }
     requires took { (records : List Record) × spec.Took question.now counted.old records × (length records + 1 < 2 ^ 64) }
     ensures { (records : List Record) → spec.Took question.now counted.old records
         → spec.Took question.now counted.new (records ++ record_of record.now ∷ []) }
@@ -99,7 +99,7 @@ pub(crate) fn add_counted<P: Allocator, A: Allocator + Copy>(
     counted: &mut Counted<A>,
     record: &Captured<'_>,
 )
-    requires shows { (spec.counts_groups question.now.report ≡ true) × (spec.counts_runs question.now.report ≡ true) }
+    requires counts { (spec.counts_groups question.now.report ≡ true) × (spec.counts_runs question.now.report ≡ true) }
     requires took { (records : List Record) × spec.Took question.now counted.old records × (length records + 1 < 2 ^ 64) }
     ensures { (records : List Record) → spec.Took question.now counted.old records
         → spec.Took question.now counted.new (records ++ record_of record.now ∷ []) }

@@ -41,7 +41,8 @@ ending_by PartOfHeader place = CutHeader place
 ending_by PartOfData place = CutData place
 ending_by (WholeRecord size) place = Whole
 
--- the records from this number on, up to an end, where the first of them, if there is one, stands at this place
+-- the records from this number on, up to, not including, `end`, where the first of them, if there is one, stands at this
+-- place
 pub record AreRecordsFrom (order : Endianness) (file : List ℕ) (place number end : ℕ) : Type 0 where
   pub long : FILE_HEADER ≤ length file
   pub ordered : number ≤ end

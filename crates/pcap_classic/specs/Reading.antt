@@ -24,7 +24,8 @@ NeedsRoom (next ∷ rest) how = ROOM < RECORD_HEADER + length next.bytes
 NeedsRoom [] how = (place : ℕ) × (how ≡ CutData place)
 
 -- where this was left of a capture: its first record is lent, and the rest is left; or it has no record, and its ending
--- is known; or it is left as it was, out of memory only where the next record needs room
+-- is known; or a read failed or memory ran out, and it is left as it was. Memory runs out only where the next record needs
+-- room.
 abbrev pub Gives : Savefile → Result (Option Captured) ReadFault → Reading → Type 0
 Gives s (Ok (Some item)) new = (rest : Savefile) × (new.left ≡ Some rest)
     × (s ≡ record rest { records = record_of item ∷ rest.records })

@@ -2,16 +2,16 @@ use Rattle.std.proofs.Common.{length, arith}
 use Rattle.pcap_classic.specs.Lent.{record_of}
 use Rattle.cbpf_why.specs.Ends.{ends_of}
 use Rattle.cbpf_why.specs.Question.{machine_in}
-use Rattle.cbpf_why.proofs.CountedLemmas.{took-both, groups_shown, runs_shown, length-ends}
+use Rattle.cbpf_why.proofs.CountedLemmas.{took-both, groups_counted, runs_counted, length-ends}
 use Rattle.cbpf_why.proofs.counted.add_counted.Goals as goal
 
 pub count_packet-ended-requires-clause-long : goal.count_packet-ended-requires-clause-long
 count_packet-ended-requires-clause-long g c =
-    (runs_shown c.args.question.now c.args.counted.now c.requires.took.0 c.requires.shows.1 c.requires.took.1).long
+    (runs_counted c.args.question.now c.args.counted.now c.requires.took.0 c.requires.counts.1 c.requires.took.1).long
 
 pub count_packet-ended-requires-clause-few : goal.count_packet-ended-requires-clause-few
 count_packet-ended-requires-clause-few g c =
-    let runs = runs_shown c.args.question.now c.args.counted.now c.requires.took.0 c.requires.shows.1 c.requires.took.1 in
+    let runs = runs_counted c.args.question.now c.args.counted.now c.requires.took.0 c.requires.counts.1 c.requires.took.1 in
     omega (arith, runs.packets, c.requires.took.2)
 
 pub add-requires : goal.add-requires
@@ -20,15 +20,15 @@ add-requires g c =
     let few = length-ends (machine_in c.args.question.now) records in (
       length c.args.question.now.program.now,
       ends_of (machine_in c.args.question.now) records,
-      groups_shown c.args.question.now c.args.counted.now records c.requires.shows.0 c.requires.took.1,
+      groups_counted c.args.question.now c.args.counted.now records c.requires.counts.0 c.requires.took.1,
       omega (arith, few, c.requires.took.2),
       c.count_packet-ended.ensures.inside,
     )
 
 pub returns : goal.returns
 returns g c = λ records took.
-    took-both c.args.question.now _ records (record_of c.args.record.now) c.requires.shows.0 c.requires.shows.1
+    took-both c.args.question.now _ records (record_of c.args.record.now) c.requires.counts.0 c.requires.counts.1
     (rw c.count_packet-ended.ensures.ended at (c.add.ensures _ _
-    (groups_shown c.args.question.now c.args.counted.now records c.requires.shows.0 took)))
+    (groups_counted c.args.question.now c.args.counted.now records c.requires.counts.0 took)))
     (c.count_packet-ended.ensures.tallies records
-    (runs_shown c.args.question.now c.args.counted.now records c.requires.shows.1 took))
+    (runs_counted c.args.question.now c.args.counted.now records c.requires.counts.1 took))
