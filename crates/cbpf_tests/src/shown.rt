@@ -29,7 +29,11 @@ fn faults_of_sessions(rt: HostRuntime) {
     assert_shown(&rt, SessionFault::NoStep(4), "S6 packet has 4 steps");
     assert_shown(&rt, SessionFault::TooFarBack(3), "S7 at most 3 back");
     assert_shown(&rt, SessionFault::ZeroCount, "S8 count is zero");
-    assert_shown(&rt, SessionFault::TakesNoValue, "S9 no value for this extension");
+    assert_shown(
+        &rt,
+        SessionFault::TakesNoValue,
+        "S9 no value for this extension",
+    );
     assert_shown(&rt, SessionFault::Memory, "out of memory");
 }
 
