@@ -4,6 +4,7 @@ use Rattle.cbpf_machine.specs.Registers.{zero_state}
 use Rattle.cbpf_machine.specs.Machine.{machine_of}
 use Rattle.cbpf_machine.specs.Trace.{trace}
 use Rattle.cbpf_machine.specs.Values.{no_values}
+use Rattle.cbpf_machine.proofs.FollowLemmas.{paused_of}
 use Rattle.cbpf_machine.proofs.TraceLemmas.{goes_from_entry, length-trace_from}
 use Rattle.cbpf_machine.proofs.SoundLemmas.{sound_few}
 use Rattle.cbpf_tests.proofs.machine_trail.gone_on.Goals as goal
@@ -49,8 +50,10 @@ overflow_add-result g c =
     c.requires.last in
     let kept : g.T.Trail.kept c.args.trail.now ≡ c.args.count =
     omega (arith, c.requires.from_one, long, within, length-take c.args.count (trace (machine_of c.args.p.now no_values) [] 0)) in
+    let first = (paused_of _ (trace (machine_of c.args.p.now c.new-values.result) [] 0) (g.T.Trail.kept c.args.trail.now) _ _ _ _
+    c.in-Paused.ensures.follows).0 in
     let there = slice_get_within (trace (machine_of c.args.p.now c.new-values.result) [] 0)
-    (g.T.Trail.kept c.args.trail.now + c.in-Paused.more - 1) c.follow.new.s c.in-Paused.ensures.follows.2 in
+    (g.T.Trail.kept c.args.trail.now + c.in-Paused.more - 1) c.follow.new.s first.at in
     omega (
       arith,
       kept,
@@ -75,7 +78,10 @@ returns-clause-within g c =
     c.requires.last in
     let kept : g.T.Trail.kept c.args.trail.now ≡ c.args.count =
     omega (arith, c.requires.from_one, long, within, length-take c.args.count (trace (machine_of c.args.p.now no_values) [] 0)) in
+    let first = (paused_of _ (trace (machine_of c.args.p.now c.new-values.result) [] 0) (g.T.Trail.kept c.args.trail.now) _ _ _ _
+    c.in-Paused.ensures.follows).0 in
+    let some = first.some in
     let there = slice_get_within (trace (machine_of c.args.p.now no_values) [] 0)
     (g.T.Trail.kept c.args.trail.now + c.in-Paused.more - 1) c.follow.new.s
-    (rw c.new-values.ensures.value at c.in-Paused.ensures.follows.2) in
-    omega (arith, kept, there, c.in-Paused.ensures.follows.0)
+    (rw c.new-values.ensures.value at first.at) in
+    omega (arith, kept, there, some)
