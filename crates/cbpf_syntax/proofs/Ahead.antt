@@ -1,11 +1,10 @@
 -- What holds of tokens whatever tokens follow.
-use Rattle.std.proofs.Common.{rules, ◌≡◌, ℕ, suc, ◌<◌, true, List, [], ◌∷◌, ◌++◌, length, take, arith, sym, subst, ◌+◌}
+use Rattle.std.proofs.Common.{rules, refl, ◌≡◌, ℕ, suc, ◌<◌, true, List, [], ◌∷◌, ◌++◌, length, take, arith, sym, subst, ◌+◌}
 use Rattle.std.proofs.Common.{length-append}
 use Rattle.std.proofs.lemmas.List.{take-append-le}
 use Rattle.cbpf_syntax.specs.Lexemes.{Lexeme}
-use Rattle.cbpf_syntax.specs.Items.{Item, IsItem}
-use Rattle.cbpf_syntax.specs.Steps.{Goes, Stuck, IsNextItem, starts_with_label, AreLabels}
-use Rattle.cbpf_syntax.specs.Views.{label_words}
+use Rattle.cbpf_syntax.specs.Items.{Item, AreLabels, IsItem}
+use Rattle.cbpf_syntax.specs.Steps.{Goes, Stuck, IsNextItem, starts_with_label}
 use Rattle.cbpf_syntax.proofs.Greedy.{front_as, goes_as}
 use Rattle.cbpf_syntax.proofs.Steps.{label_stuck, label_item}
 
@@ -34,25 +33,31 @@ label_more ts us h1 = search (rules)
 
 -- The labels before an instruction.
 
-pub labels_stuck : (ls ts : List Lexeme) (n : ℕ) → AreLabels ls → Stuck n ts → Stuck (length ls + n) (ls ++ ts)
-labels_stuck [] ts n a s = let e : 0 + n ≡ n = omega arith in rw e s
-labels_stuck (t ∷ []) ts n a s = absurd a
-labels_stuck (t ∷ u ∷ ls) ts n a s =
-    let e : suc (suc (length ls)) + n ≡ suc (suc (length ls + n)) = omega arith in
-    rw e (label_stuck t u (ls ++ ts) (length ls + n) a.0 a.1 (labels_stuck ls ts n a.2 s))
+pub labels_stuck : (us ls ts : List Lexeme) (n : ℕ) → AreLabels us ls → Stuck n ts → Stuck (length us + n) (us ++ ts)
+labels_stuck [] [] ts n a s = let e : 0 + n ≡ n = omega arith in rw e s
+labels_stuck (t ∷ u ∷ us) (l ∷ ls) ts n a s =
+    let e : suc (suc (length us)) + n ≡ suc (suc (length us + n)) = omega arith in
+    rw e (label_stuck t u (us ++ ts) (length us + n) a.1 a.2 (labels_stuck us ls ts n a.3 s))
+labels_stuck us ls ts n a s = absurd a
 
-pub labels_item : (ls ts : List Lexeme) (n : ℕ) (item : Item) → AreLabels ls → IsNextItem ts n item
-    → IsNextItem (ls ++ ts) (length ls + n)
-    (record { labels = label_words ls ++ item.labels; row = item.row; body = item.body })
-labels_item [] ts n item a s = let e : 0 + n ≡ n = omega arith in rw e s
-labels_item (t ∷ []) ts n item a s = absurd a
-labels_item (t ∷ u ∷ ls) ts n item a s =
-    let e : suc (suc (length ls)) + n ≡ suc (suc (length ls + n)) = omega arith in
-    rw e (label_item t u (ls ++ ts) (length ls + n)
-    (record { labels = label_words ls ++ item.labels; row = item.row; body = item.body }) a.0 a.1
-    (labels_item ls ts n item a.2 s))
+pub labels_item : (us ls ts : List Lexeme) (n : ℕ) (item : Item) → AreLabels us ls → IsNextItem ts n item
+    → IsNextItem (us ++ ts) (length us + n)
+    (record { labels = ls ++ item.labels; row = item.row; body = item.body })
+labels_item [] [] ts n item a s = let e : 0 + n ≡ n = omega arith in rw e s
+labels_item (t ∷ u ∷ us) (l ∷ ls) ts n item a s =
+    let e : suc (suc (length us)) + n ≡ suc (suc (length us + n)) = omega arith in
+    rw (e, ← a.0) (label_item t u (us ++ ts) (length us + n)
+    (record { labels = ls ++ item.labels; row = item.row; body = item.body }) a.1 a.2
+    (labels_item us ls ts n item a.3 s))
+labels_item us ls ts n item a s = absurd a
 
-pub labels_append : (ls ms : List Lexeme) → AreLabels ls → AreLabels ms → AreLabels (ls ++ ms)
-labels_append [] ms a b = b
-labels_append (t ∷ []) ms a b = absurd a
-labels_append (t ∷ u ∷ ls) ms a b = (a.0, a.1, labels_append ls ms a.2 b)
+pub labels_append : (us ls vs ms : List Lexeme) → AreLabels us ls → AreLabels vs ms → AreLabels (us ++ vs) (ls ++ ms)
+labels_append [] [] vs ms a b = b
+labels_append (t ∷ u ∷ us) (l ∷ ls) vs ms a b = (a.0, a.1, a.2, labels_append us ls vs ms a.3 b)
+labels_append us ls vs ms a b = absurd a
+
+-- each label is two tokens
+pub labels_size : (us ls : List Lexeme) → AreLabels us ls → length us ≡ length ls + length ls
+labels_size [] [] a = refl
+labels_size (t ∷ u ∷ us) (l ∷ ls) a = omega (arith, labels_size us ls a.3)
+labels_size us ls a = absurd a

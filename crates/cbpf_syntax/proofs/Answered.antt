@@ -6,14 +6,16 @@ use Rattle.std.proofs.lemmas.Bool.{cases_lt, cases_Bool, both_ways}
 use Rattle.cbpf_syntax.specs.Classes.Class.{the_mark, name}
 use Rattle.cbpf_syntax.specs.Lexemes.{Lexeme}
 use Rattle.cbpf_syntax.specs.Table.{classes, table}
-use Rattle.cbpf_syntax.specs.Fits.{fits, fits_all, fits_front}
+use Rattle.cbpf_syntax.specs.Fits.{fits, fits_all}
 use Rattle.cbpf_syntax.specs.Items.{Item, Items, IsItem}
 use Rattle.cbpf_syntax.specs.Steps.{Goes, Stuck, IsNextItem, starts_with_colon}
 use Rattle.cbpf_syntax.specs.Refusals.{is_large_at, IsLargeNegative, ItemsStuckAt}
 use Rattle.cbpf_syntax.proofs.Elements.{any_element, some_element}
-use Rattle.cbpf_syntax.proofs.Apart.{no_classes}
+use Rattle.cbpf_syntax.proofs.Fronts.{fits_front}
+use Rattle.cbpf_syntax.proofs.Readings.{bare_item, reading_of, begins_by}
+use Rattle.cbpf_syntax.proofs.Apart.{no_item}
 use Rattle.cbpf_syntax.proofs.Greedy.{Greedy}
-use Rattle.cbpf_syntax.proofs.Steps.{some_known, bare_front, bare_whole, form_of, name_stuck, label_stuck, label_item}
+use Rattle.cbpf_syntax.proofs.Steps.{some_known, bare_front, bare_fits, name_stuck, label_stuck, label_item}
 use Rattle.cbpf_syntax.proofs.Steps.{end_stuck}
 use Rattle.cbpf_syntax.proofs.Refused.{greedy_more, greedy_all, next_some, stuck_at}
 
@@ -53,22 +55,25 @@ base_step t ts s = by_whole (cases_Bool (some_whole (take front.0 (t ∷ ts))))
         let r = some_element (λ r. fits_front (classes r) (take front.0 (t ∷ ts))) table front.2 in
         record {
           within = front.1;
-          begins = record { count = 0; row = r.0; known = r.1; fits = r.2 };
-          no_farther = λ l b. let fit = bare_front b.count b.row t (take front.0 ts) s b.fits in both_ways _ (front.3 l)
-              (any_element (λ r. fits_front (classes r) (t ∷ take front.0 ts)) table b.row b.known fit);
+          begins = begins_by (take front.0 (t ∷ ts)) (record { count = 0; row = r.0; known = r.1; fits = r.2 });
+          no_farther = λ l b.
+              let r = reading_of (t ∷ take front.0 ts) b in
+              let fit = bare_front r.count r.row t (take front.0 ts) s r.fits in
+              both_ways _ (front.3 l)
+              (any_element (λ r. fits_front (classes r) (t ∷ take front.0 ts)) table r.row r.known fit);
         }
 
     by_whole : (some_whole (take front.0 (t ∷ ts)) ≡ true) ⊎ (some_whole (take front.0 (t ∷ ts)) ≡ false)
         → NextOrStuck (t ∷ ts)
     by_whole (inl found) =
         let r = some_element (λ r. fits_all (classes r) (take front.0 (t ∷ ts))) table found in
-        inl (front.0, _, record { goes = goes; is_item = form_of 0 r.0 (take front.0 (t ∷ ts)) r.1 r.2 })
+        inl (front.0, _, record { goes = goes; is_item = bare_item r.0 (take front.0 (t ∷ ts)) r.1 r.2 })
     by_whole (inr other) = inr (front.0, record { goes = goes; none = λ i form. none front.0 i form other })
       where
         none : (n : ℕ) (i : Item) → IsItem (take n (t ∷ ts)) i → some_whole (take n (t ∷ ts)) ≡ false → ⊥
-        none zero i form other = no_classes form.count i.row form.row form.fits
-        none (suc n) i form other = let fit = bare_whole form.count i.row t (take n ts) s form.fits in
-            both_ways _ other (any_element (λ r. fits_all (classes r) (t ∷ take n ts)) table i.row form.row fit)
+        none zero i p other = no_item i p
+        none (suc n) i p other = both_ways _ other
+            (any_element (λ r. fits_all (classes r) (t ∷ take n ts)) table i.row p.form.known (bare_fits i t (take n ts) s p))
 
 bare_step : (t : Lexeme) (ts : List Lexeme) → starts_with_colon ts ≡ false → NextOrStuck (t ∷ ts)
 bare_step t ts c = elim (cases_Bool (fits name t.symbol)) [

@@ -1,19 +1,20 @@
 -- No two rows of the table fit the same tokens, unless one goes on with a comma where the other ends.
 use Rattle.std.proofs.Common.{rules, ◌≡◌, ℕ, Bool, true, false, not, ◌&&◌, ◌||◌, List, [], ◌∷◌, ◌++◌, length, refl, sym}
-use Rattle.std.proofs.Common.{◌∙◌, ◌⊎◌, inl, inr, eq-eqb, eqb-true, zero, suc, ap, subst, append-nil, append_assoc}
+use Rattle.std.proofs.Common.{arith, ◌∙◌, ◌⊎◌, inl, inr, eq-eqb, eqb-true, zero, suc, ap, subst}
 use Rattle.std.specs.Prelude.{◌==◌, bytes_eq, nat_lt, Contains}
 use Rattle.std.specs.List.{list_all}
 use Rattle.std.proofs.lemmas.Bool.{and_parts}
 use Rattle.std.proofs.lemmas.Slice.Eq.{bytes_eq-Decides}
 use Rattle.cbpf_syntax.specs.Classes.{Class}
 use Rattle.cbpf_syntax.specs.Lexemes.{Symbol, Lexeme}
-use Rattle.cbpf_syntax.specs.Fits.{fits, fits_all, fits_front, is_one_of, is_reserved, extension_names, mnemonic_words}
+use Rattle.cbpf_syntax.specs.Fits.{fits, fits_all, is_one_of, is_reserved, extension_names, mnemonic_words}
 use Rattle.cbpf_syntax.specs.Table.{operand_words, Row, classes, mnemonics, table}
 use Rattle.cbpf_syntax.specs.Lexemes.Symbol.{word, number, mark}
 use Rattle.cbpf_syntax.specs.Classes.Class.{the_word, the_mark, literal, negated, exactly, extension, name}
 use Rattle.cbpf_syntax.proofs.Elements.{list_all_at, all_pairs, same_or_pair}
-use Rattle.cbpf_syntax.proofs.Fronts.{whole_front}
-use Rattle.cbpf_syntax.specs.Items.{Item, IsItem, Items, BeginsItem, classes_of}
+use Rattle.cbpf_syntax.proofs.Fronts.{fits_front, front_nil, whole_front}
+use Rattle.cbpf_syntax.proofs.Readings.{classes_of, item_fits, begins_by}
+use Rattle.cbpf_syntax.specs.Items.{Item, AreLabels, IsItem, Items, BeginsItem}
 
 abbrev pub is_numeric : Class → Bool
 is_numeric literal = true
@@ -166,7 +167,10 @@ pub no_classes : (n : ℕ) (r : Row) → Contains table r → fits_all (classes_
 no_classes zero r p f = no_row (classes r) (row_starts r p) f
 no_classes (suc n) r p f = cc
 
--- neither items nor what begins one starts with a comma
+pub no_item : (i : Item) → IsItem [] i → ⊥
+no_item i p = no_classes (length i.labels) i.row p.form.known (item_fits [] i p)
+
+-- items don't start with a comma
 comma_row : (cs : List Class) (ts : List Lexeme) → starts_reserved cs ≡ true → fits_front cs ts ≡ true
     → starts_with_comma ts ≡ true → ⊥
 comma_row (the_word w ∷ cs) (t ∷ ts) e f h = comma_word w t.symbol (and_parts _ _ f).0 h
@@ -183,16 +187,16 @@ comma_form : (n : ℕ) (r : Row) (ts : List Lexeme) → Contains table r → fit
 comma_form n r ts h1 h2 h3 = search (rules, comma_row, row_starts, comma_name, and_parts)
 
 comma_front : (ts us : List Lexeme) (i : Item) → IsItem ts i → starts_with_comma (ts ++ us) ≡ true → ⊥
-comma_front [] us i form h = no_classes form.count i.row form.row form.fits
-comma_front (t ∷ ts) us i form h = comma_form form.count i.row (t ∷ ts) form.row (whole_front _ (t ∷ ts) form.fits) h
+comma_front [] us i p h = no_item i p
+comma_front (t ∷ ts) us i p h =
+    comma_form (length i.labels) i.row (t ∷ ts) p.form.known (whole_front _ (t ∷ ts) (item_fits (t ∷ ts) i p)) h
 
-pub comma_reading : (ts f r : List Lexeme) (items : List Item) → ts ≡ f ++ r → Items f items → BeginsItem r
-    → starts_with_comma ts ≡ true → ⊥
-comma_reading ts f r [] e p b h = comma_form b.count b.row r b.known b.fits (rw (e, p) at h)
-comma_reading ts f r (i ∷ is) e p b h = comma_front p.0 (p.1 ++ r) i p.3 (rw (e, p.2, append_assoc p.0 p.1 r) at h)
+pub comma_items : (ts : List Lexeme) (items : List Item) → Items ts items → starts_with_comma ts ≡ true → ⊥
+comma_items ts [] p h = let none : false ≡ true = rw p at h in cc
+comma_items ts (i ∷ is) p h = comma_front p.0 p.1 i p.3 (rw p.2 at h)
 
 pub begins_none : (r : Row) → Contains table r → BeginsItem []
-begins_none r p = record { count = 0; row = r; known = p; fits = refl }
+begins_none r k = begins_by [] (record { count = 0; row = r; known = k; fits = front_nil (classes r) })
 
 -- the same classes take the same tokens
 pub same_front : (cs : List Class) (ts x us y : List Lexeme) → fits_all cs ts ≡ true → fits_all cs us ≡ true
@@ -205,12 +209,27 @@ same_front (c ∷ cs) (t ∷ ts) x (u ∷ us) y f g e =
     (cc, both.1)
 same_front cs ts x us y f g e = cc
 
-same_item : (f g : List Lexeme) (i j : Item) → f ≡ g → (p : IsItem f i) (q : IsItem g j) → p.count ≡ q.count
+-- as many labels before the same tokens are the same ones
+same_labels : (ts us ls ms b c : List Lexeme) → AreLabels ts ls → AreLabels us ms → length ls ≡ length ms
+    → ts ++ b ≡ us ++ c → (ls ≡ ms) × (b ≡ c)
+same_labels [] [] [] [] b c p q n e = (refl, e)
+same_labels (t ∷ v ∷ ts) (u ∷ w ∷ us) (l ∷ ls) (m ∷ ms) b c p q n e =
+    let tl : ts ++ b ≡ us ++ c = cc in
+    let hd : t ≡ u = cc in
+    let same : l ≡ m = sym p.0 ∙ (hd ∙ q.0) in
+    let both = same_labels ts us ls ms b c p.3 q.3 (omega arith) tl in
+    (λ k. same k ∷ both.0 k, both.1)
+same_labels ts us ls ms b c p q n e = search (rules)
+
+same_item : (f g : List Lexeme) (i j : Item) → f ≡ g → IsItem f i → IsItem g j → length i.labels ≡ length j.labels
     → i.row ≡ j.row → i ≡ j
-same_item f g i j h1 p q h2 h3 = search (rules)
+same_item f g i j e p q n r =
+    let both = same_labels p.before q.before i.labels j.labels i.body j.body p.labels q.labels n
+    (sym p.all ∙ (e ∙ q.all)) in
+    λ k. record { labels = both.0 k; row = r k; body = both.1 k }
 
 nothing : (ts f r : List Lexeme) (i : Item) → ts ≡ [] → ts ≡ f ++ r → IsItem f i → ⊥
-nothing ts [] r i e h form = no_classes form.count i.row form.row form.fits
+nothing ts [] r i e h form = no_item i form
 nothing ts (t ∷ f) r i e h form = let k : [] ≡ t ∷ (f ++ r) = sym e ∙ h in cc
 
 pub one_item_list : (ts : List Lexeme) (is js : List Item) → Items ts is → Items ts js → is ≡ js
@@ -218,20 +237,19 @@ one_item_list ts [] [] p q = refl
 one_item_list ts [] (j ∷ js) p q = absurd (nothing ts q.0 q.1 j p q.2 q.3)
 one_item_list ts (i ∷ is) [] p q = absurd (nothing ts p.0 p.1 i q p.2 p.3)
 one_item_list ts (i ∷ is) (j ∷ js) p q =
-    elim (readings_apart p.3.count q.3.count i.row j.row p.3.row q.3.row) [
+    let f = item_fits p.0 i p.3 in
+    let g = item_fits q.0 j q.3 in
+    elim (readings_apart (length i.labels) (length j.labels) i.row j.row p.3.form.known q.3.form.known) [
       | inl e ↦
-          let ce : classes_of p.3.count i.row ≡ classes_of q.3.count j.row =
-          ap (λ n. classes_of n i.row) e.0 ∙ ap (λ r. classes_of q.3.count r) e.1 in
-          let fits' : fits_all (classes_of p.3.count i.row) q.0 ≡ true =
-          subst (λ cs. fits_all cs q.0 ≡ true) (sym ce) q.3.fits in
-          let both = same_front (classes_of p.3.count i.row) p.0 p.1 q.0 q.1 p.3.fits fits' (sym p.2 ∙ q.2) in
+          let ce : classes_of (length i.labels) i.row ≡ classes_of (length j.labels) j.row =
+          ap (λ n. classes_of n i.row) e.0 ∙ ap (λ r. classes_of (length j.labels) r) e.1 in
+          let g' = subst (λ cs. fits_all cs q.0 ≡ true) (sym ce) g in
+          let both = same_front (classes_of (length i.labels) i.row) p.0 p.1 q.0 q.1 f g' (sym p.2 ∙ q.2) in
           let hd : i ≡ j = same_item p.0 q.0 i j both.0 p.3 q.3 e.0 e.1 in
           let tl : is ≡ js = one_item_list p.1 is js p.4 (subst (λ r. Items r js) (sym both.1) q.4) in
           λ k. hd k ∷ tl k
-      | inr a ↦
-          let none = begins_none i.row p.3.row in
-          absurd (elim (apart_split _ _ p.0 p.1 q.0 q.1 a p.3.fits q.3.fits (sym p.2 ∙ q.2)) [
-            | inl k ↦ comma_reading p.1 p.1 [] is (sym (append-nil p.1)) p.4 none k
-            | inr k ↦ comma_reading q.1 q.1 [] js (sym (append-nil q.1)) q.4 none k
-          ])
+      | inr a ↦ absurd (elim (apart_split _ _ p.0 p.1 q.0 q.1 a f g (sym p.2 ∙ q.2)) [
+        | inl k ↦ comma_items p.1 is p.4 k
+        | inr k ↦ comma_items q.1 js q.4 k
+      ])
     ]

@@ -13,8 +13,6 @@ use Rattle.cbpf_syntax.specs.Ahead.{IsFirstLarge}
 use Rattle.cbpf_syntax.specs.Laws.{OneFirstRefusal, EachParsed}
 use Rattle.cbpf_syntax.proofs.Cuts.{some-same}
 use Rattle.cbpf_syntax.proofs.Greedy.{begins_take}
-use Rattle.cbpf_syntax.proofs.Apart.{begins_none}
-use Rattle.cbpf_syntax.proofs.Steps.{some_known}
 use Rattle.cbpf_syntax.proofs.Refused.{large_within}
 use Rattle.cbpf_syntax.proofs.Minus.{never_both}
 use Rattle.cbpf_syntax.proofs.Answered.{reach, first_large}
@@ -59,8 +57,7 @@ unfinished_first ts s stuck e none = record {
 
 -- Where the tokens are items.
 items_begin : (ts : List Lexeme) (items : List Item) → Items ts items → BeginsItems ts
-items_begin ts items p =
-    (ts, [], items, sym (append-nil ts), p, begins_none some_known.0 some_known.1)
+items_begin ts items p = ([], items, subst (λ us. Items us items) (sym (append-nil ts)) p)
 
 pub items_accepted : (ts : List Lexeme) (items : List Item) → Items ts items → ((k : ℕ) → IsLargeNegative ts k → ⊥)
     → IsAccepted ts

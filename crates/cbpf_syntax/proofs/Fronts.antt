@@ -1,11 +1,22 @@
 -- Tokens that fit classes: all of them, or as far as the tokens go.
-use Rattle.std.proofs.Common.{◌≡◌, ℕ, suc, ◌≤◌, true, List, [], ◌∷◌, ◌++◌, length, take, refl, arith, ap, ◌⊎◌, inl, inr}
+use Rattle.std.proofs.Common.{◌≡◌, ℕ, suc, ◌≤◌, Bool, true, false, ◌&&◌, List, [], ◌∷◌, ◌++◌, length, take, refl, arith, ap, inl, inr}
 use Rattle.std.proofs.Math.Numerals.{one-add}
 use Rattle.std.proofs.lemmas.Bool.{and_parts, cases_Bool}
 use Rattle.cbpf_syntax.specs.Classes.{Class}
 use Rattle.cbpf_syntax.specs.Lexemes.{Lexeme}
-use Rattle.cbpf_syntax.specs.Fits.{fits, fits_all, fits_front}
+use Rattle.cbpf_syntax.specs.Fits.{fits, fits_all}
 use Rattle.cbpf_syntax.specs.Choice.{common}
+
+-- the tokens fit the classes one by one, of which there may be more
+abbrev pub fits_front : List Class → List Lexeme → Bool
+fits_front [] [] = true
+fits_front [] (t ∷ ts) = false
+fits_front (c ∷ cs) [] = true
+fits_front (c ∷ cs) (t ∷ ts) = fits c t.symbol && fits_front cs ts
+
+pub front_nil : (cs : List Class) → fits_front cs [] ≡ true
+front_nil [] = refl
+front_nil (c ∷ cs) = refl
 
 pub whole_front : (cs : List Class) (ts : List Lexeme) → fits_all cs ts ≡ true → fits_front cs ts ≡ true
 whole_front [] (t ∷ ts) f = cc
@@ -36,26 +47,6 @@ front_before [] (t ∷ ts) us h = cc
 front_before (c ∷ cs) (t ∷ ts) us h =
     let p = and_parts (fits c t.symbol) (fits_front cs (ts ++ us)) h in rw (p.0, front_before cs ts us p.1) refl
 front_before cs ts us h = refl
-
-pub front_joined : (cs ds : List Class) (ts us : List Lexeme) → fits_all cs ts ≡ true → fits_front ds us ≡ true
-    → fits_front (cs ++ ds) (ts ++ us) ≡ true
-front_joined [] ds [] us f g = g
-front_joined (c ∷ cs) ds (t ∷ ts) us f g =
-    let p = and_parts (fits c t.symbol) (fits_all cs ts) f in rw (p.0, front_joined cs ds ts us p.1 g) refl
-front_joined cs ds ts us f g = cc
-
--- the tokens end among the first classes, or fit them and go on
-pub front_cut : (cs ds : List Class) (ts : List Lexeme) → fits_front (cs ++ ds) ts ≡ true
-    → (fits_front cs ts ≡ true)
-    ⊎ ((f : List Lexeme) × (g : List Lexeme) × (ts ≡ f ++ g) × (fits_all cs f ≡ true) × (fits_front ds g ≡ true))
-front_cut [] ds ts h = inr ([], ts, refl, refl, h)
-front_cut (c ∷ cs) ds [] h = inl refl
-front_cut (c ∷ cs) ds (t ∷ ts) h =
-    let p = and_parts (fits c t.symbol) (fits_front (cs ++ ds) ts) h in
-    elim (front_cut cs ds ts p.1) [
-      | inl q ↦ inl (rw (p.0, q) refl)
-      | inr q ↦ inr (t ∷ q.0, q.1, ap (λ x. t ∷ x) q.2, rw (p.0, q.3) refl, q.4)
-    ]
 
 -- as many tokens fit as `common` says, and no more
 pub common_fits : (cs : List Class) (ts : List Lexeme) → fits_front cs (take (common cs ts) ts) ≡ true

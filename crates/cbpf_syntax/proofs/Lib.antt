@@ -6,6 +6,7 @@ pub mod Spelled
 pub mod Outcomes
 pub mod EachLexed
 pub mod Fronts
+pub mod Readings
 pub mod Apart
 pub mod Greedy
 pub mod Steps

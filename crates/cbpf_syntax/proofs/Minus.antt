@@ -1,6 +1,7 @@
 -- No token is misplaced that is a number after a `-`.
 use Rattle.std.proofs.Common.{rules, ◌≡◌, ℕ, zero, suc, ◌+◌, Bool, true, false, not, ◌&&◌, ◌||◌, List, [], ◌∷◌}
-use Rattle.std.proofs.Common.{◌++◌, take, refl, arith, ap, Some, eqb-true, eq-eqb}
+use Rattle.std.proofs.Common.{◌++◌, take, refl, arith, ap, Some, eqb-true, eq-eqb, ◌⊎◌, inl, inr, sym, subst, length}
+use Rattle.std.proofs.Common.{append_assoc}
 use Rattle.std.specs.Prelude.{◌==◌, Contains}
 use Rattle.std.specs.List.{list_all}
 use Rattle.std.proofs.lemmas.Bool.{and_parts, both_ways, not-true}
@@ -10,10 +11,12 @@ use Rattle.cbpf_syntax.specs.Lexemes.Symbol.{number, mark}
 use Rattle.cbpf_syntax.specs.Classes.{Class}
 use Rattle.cbpf_syntax.specs.Classes.Class.{the_mark, negated, name}
 use Rattle.cbpf_syntax.specs.Table.{Row, classes, mnemonics, table}
-use Rattle.cbpf_syntax.specs.Fits.{fits, fits_front}
-use Rattle.cbpf_syntax.specs.Items.{classes_of}
+use Rattle.cbpf_syntax.specs.Fits.{fits}
+use Rattle.cbpf_syntax.specs.Items.{Item, Items, BeginsItems}
 use Rattle.cbpf_syntax.specs.Refusals.{symbol_at, IsLargeNegative, IsMisplaced}
-use Rattle.cbpf_syntax.proofs.Greedy.{chain, AreKnown, chain_of, chain_begins}
+use Rattle.cbpf_syntax.proofs.Fronts.{fits_front, front_nil, front_before, whole_front}
+use Rattle.cbpf_syntax.proofs.Readings.{classes_of, item_fits, begins_by}
+use Rattle.cbpf_syntax.proofs.Greedy.{begins_items, items_after}
 use Rattle.cbpf_syntax.proofs.Cuts.{some-same}
 use Rattle.cbpf_syntax.proofs.Refused.{large_parts}
 
@@ -48,21 +51,12 @@ minus_item : (count : ℕ) (r : Row) → Contains table r → minus_goes_on (cla
 minus_item zero r p = rw p.2 at (list_all_at (λ (s : Row). minus_goes_on (classes s)) table p.0 r table_minus p.1)
 minus_item (suc count) r p = minus_joined (name ∷ the_mark 58 ∷ []) (classes_of count r) refl (minus_item count r p)
 
-minus_chain : (ps : List (ℕ × Row)) → AreKnown ps → minus_goes_on (chain ps) ≡ true
-minus_chain [] k = refl
-minus_chain (p ∷ ps) k =
-    minus_joined (classes_of p.0 p.1) (chain ps) (minus_item p.0 p.1 k.0) (minus_chain ps k.1)
-
 minus_class : (c : Class) (t : Symbol) → t ≡ mark 45 → fits c t ≡ true → is_minus c ≡ true
 minus_class c t h1 h2 = search (rules, eq-eqb, eqb-true)
 
 number_fits : (c d : Class) (m k : Symbol) (n : ℕ) → m ≡ mark 45 → k ≡ number n → fits c m ≡ true
     → (not (is_minus c) || is_negated d) ≡ true → fits d k ≡ true
 number_fits c d m k n h1 h2 h3 h4 = search (rules, minus_class)
-
-front_nil : (cs : List Class) → fits_front cs [] ≡ true
-front_nil [] = refl
-front_nil (c ∷ cs) = refl
 
 minus_later : (c : Class) (cs : List Class) → minus_goes_on (c ∷ cs) ≡ true → minus_goes_on cs ≡ true
 minus_later c [] g = refl
@@ -83,6 +77,40 @@ front_goes_on (c ∷ cs) (t ∷ r) m k n e f g h =
 front_goes_on [] [] m k n e f g h = cc
 front_goes_on [] (t ∷ r) m k n e f g h = cc
 
+-- a token of one of two parts is in the first or in the second
+parts : (f g r y : List Lexeme) (m : Lexeme) → f ++ g ≡ r ++ (m ∷ y)
+    → ((s : List Lexeme) × (r ≡ f ++ s) × (g ≡ s ++ (m ∷ y))) ⊎ ((z : List Lexeme) × (f ≡ r ++ (m ∷ z)))
+parts [] g r y m e = inl (r, refl, e)
+parts (t ∷ f) g [] y m e = let hd : t ≡ m = cc in inr (f, ap (λ x. x ∷ f) hd)
+parts (t ∷ f) g (u ∷ r) y m e =
+    let tl : f ++ g ≡ r ++ (m ∷ y) = cc in
+    let hd : t ≡ u = cc in
+    elim (parts f g r y m tl) [
+      | inl s ↦ inl (s.0, (λ k. (sym hd) k ∷ s.1 k), s.2)
+      | inr z ↦ inr (z.0, λ k. hd k ∷ z.1 k)
+    ]
+
+-- where items have a `-`, a number may follow it
+minus_items : (items : List Item) (r y : List Lexeme) (m k : Lexeme) (n : ℕ) → m.symbol ≡ mark 45
+    → k.symbol ≡ number n → Items (r ++ (m ∷ y)) items → BeginsItems (r ++ (m ∷ k ∷ []))
+minus_items [] [] y m k n e f p = cc
+minus_items [] (t ∷ r) y m k n e f p = cc
+minus_items (i ∷ is) r y m k n e f p = elim (parts p.0 p.1 r y m (sym p.2)) [
+  | inl s ↦ rw (s.1, append_assoc p.0 s.0 (m ∷ k ∷ [])) (items_after p.0 (s.0 ++ (m ∷ k ∷ [])) i p.3
+      (minus_items is s.0 y m k n e f (subst (λ us. Items us is) s.2 p.4)))
+  | inr z ↦
+      let cs = classes_of (length i.labels) i.row in
+      let all : fits_front cs ((r ++ (m ∷ [])) ++ z.0) ≡ true =
+      rw (append_assoc r (m ∷ []) z.0, ← z.1) (whole_front cs p.0 (item_fits p.0 i p.3)) in
+      begins_items _ (begins_by (r ++ (m ∷ k ∷ [])) (record {
+        count = length i.labels;
+        row = i.row;
+        known = p.3.form.known;
+        fits = front_goes_on cs r m k n e f (minus_item (length i.labels) i.row p.3.form.known)
+            (front_before cs (r ++ (m ∷ [])) z.0 all);
+      }))
+]
+
 -- the tokens up to an index and the two there
 two_at : (ts : List Lexeme) (b : ℕ) (s d : Symbol) → symbol_at ts b ≡ Some s → symbol_at ts (suc b) ≡ Some d
     → (m : Lexeme) × (k : Lexeme) × (m.symbol ≡ s) × (k.symbol ≡ d) × (take (suc b) ts ≡ take b ts ++ (m ∷ []))
@@ -99,8 +127,8 @@ never_both ts (suc i) p q =
     let large = large_parts (symbol_at ts i) (symbol_at ts (suc i)) q in
     let two = two_at ts i (mark 45) (number large.0) large.1 large.2 in
     let b = p.before in
-    let c = chain_of b.0 b.1 b.2 b.4 b.5 in
-    let ends : fits_front (chain c.0) (take i ts ++ (two.0 ∷ [])) ≡ true = rw (← b.3, two.4) at c.2 in
-    let on = front_goes_on (chain c.0) (take i ts) two.0 two.1 large.0 two.2 two.3 (minus_chain c.0 c.1) ends in
+    let ends : Items (take i ts ++ (two.0 ∷ b.0)) b.1 =
+    rw (two.4, append_assoc (take i ts) (two.0 ∷ []) b.0) at b.2 in
+    let on = minus_items b.1 (take i ts) b.0 two.0 two.1 large.0 two.2 two.3 ends in
     let more : suc (suc i) ≡ suc i + 1 = omega arith in
-    p.with_it (chain_begins c.0 (take (suc i + 1) ts) c.1 (rw (← more, two.5) on))
+    p.with_it (rw (← more, two.5) on)

@@ -16,7 +16,7 @@ use Rattle.std.proofs.Common.{true, Option, ap, eqb-true}
 use Rattle.std.specs.Prelude.{◌==◌}
 use Rattle.std.proofs.lemmas.Bool.{and_parts}
 use Rattle.cbpf_syntax.proofs.Greedy.{Greedy, stuck_first, stuck_after}
-use Rattle.cbpf_syntax.proofs.Apart.{no_classes}
+use Rattle.cbpf_syntax.proofs.Apart.{no_item}
 
 pub symbol_at_get : (ts : List declared_lexeme.Lexeme) (i : ℕ) (d : declared_lexeme.Lexeme) → i < length ts
     → symbol_at (map lexeme_of ts) i ≡ Some (symbol_of (get_or ts i d).symbol)
@@ -65,7 +65,7 @@ greedy_all ts is at l p = greedy_items ts is (rw (drop_all at ts l) at p)
 
 -- an item has a token
 pub next_some : (ts : List Lexeme) (n : ℕ) (i : Item) → IsNextItem ts n i → 0 < n
-next_some ts zero i next = absurd (no_classes next.is_item.count i.row next.is_item.row next.is_item.fits)
+next_some ts zero i next = absurd (no_item i next.is_item)
 next_some ts (suc n) i next = omega arith
 
 pub stuck_from : (ts : List Lexeme) (is : List Item) (rest : List Lexeme) (s : ℕ) → Greedy ts is rest → 0 < length rest

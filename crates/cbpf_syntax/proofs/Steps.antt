@@ -1,6 +1,6 @@
 -- One item of a parser: its labels, and then the row of which most tokens fit, a whole one before one that goes on.
-use Rattle.std.proofs.Common.{rules, ◌≡◌, ℕ, zero, suc, ◌+◌, ◌<◌, ◌≤◌, Bool, true, false, not, List, [], ◌∷◌, length}
-use Rattle.std.proofs.Common.{take, drop, refl, arith, ap, sym, ◌∙◌, ◌≢◌, ◌&&◌, subst, get_or, Bor, map, ltb-true}
+use Rattle.std.proofs.Common.{rules, ◌≡◌, ℕ, zero, suc, ◌<◌, ◌≤◌, Bool, true, false, not, List, [], ◌∷◌, length}
+use Rattle.std.proofs.Common.{◌++◌, take, drop, refl, arith, ap, sym, ◌∙◌, ◌≢◌, ◌&&◌, subst, get_or, Bor, map, ltb-true}
 use Rattle.std.specs.Prelude.{Contains, bytes_eq}
 use Rattle.std.proofs.lemmas.List.{get_or_default, length-take-le}
 use Rattle.std.proofs.lemmas.List.Sums.{common_prefix_len-le}
@@ -16,13 +16,15 @@ use Rattle.cbpf_syntax.specs.Lexemes.Symbol.{word}
 use Rattle.cbpf_syntax.specs.Classes.{Class}
 use Rattle.cbpf_syntax.specs.Classes.Class.{the_word, the_mark, name}
 use Rattle.cbpf_syntax.specs.Table.{Row, classes, table, Mnemonic, mnemonics, rows_of}
-use Rattle.cbpf_syntax.specs.Fits.{fits, fits_all, fits_front, is_reserved, is_one_of, mnemonic_words}
-use Rattle.cbpf_syntax.specs.Items.{Item, IsItem, BeginsItem, label_classes, classes_of, names_at}
+use Rattle.cbpf_syntax.specs.Fits.{fits, fits_all, is_reserved, is_one_of, mnemonic_words}
+use Rattle.cbpf_syntax.specs.Items.{Item, IsItem, BeginsItem}
 use Rattle.cbpf_syntax.specs.Choice.{IsBest}
 use Rattle.cbpf_syntax.specs.Steps.{Goes, Stuck, IsNextItem, starts_with_colon, starts_with_label}
 use Rattle.cbpf_syntax.specs.Views.{row_of, symbol_of, lexeme_of}
-use Rattle.cbpf_syntax.proofs.Fronts.{whole_front, length_whole, front_whole, common_fits, common_most}
-use Rattle.cbpf_syntax.proofs.Apart.{overlap_sound, row_starts, starts_reserved, no_classes, equal_bytes, begins_none}
+use Rattle.cbpf_syntax.proofs.Fronts.{fits_front, whole_front, length_whole, front_whole, common_fits, common_most}
+use Rattle.cbpf_syntax.proofs.Readings.{Reading, classes_of, item_fits, bare_item, label_before, item_by, reading_of}
+use Rattle.cbpf_syntax.proofs.Readings.{begins_by}
+use Rattle.cbpf_syntax.proofs.Apart.{overlap_sound, row_starts, starts_reserved, no_item, equal_bytes, begins_none}
 use Rattle.cbpf_syntax.proofs.Apart.{table_some}
 use Rattle.cbpf_syntax.proofs.Mnemonics.{same_mnemonic, row_mnemonic, row_word, row_known, word_reserved, word_listed}
 
@@ -38,9 +40,13 @@ pub bare_front : (m : ℕ) (r : Row) (t : Lexeme) (f : List Lexeme) → fits nam
     → fits_front (classes_of m r) (t ∷ f) ≡ true → fits_front (classes r) (t ∷ f) ≡ true
 bare_front m r t f h1 h2 = search (rules, and_parts)
 
-pub bare_whole : (m : ℕ) (r : Row) (t : Lexeme) (f : List Lexeme) → fits name t.symbol ≡ false
+bare_whole : (m : ℕ) (r : Row) (t : Lexeme) (f : List Lexeme) → fits name t.symbol ≡ false
     → fits_all (classes_of m r) (t ∷ f) ≡ true → fits_all (classes r) (t ∷ f) ≡ true
 bare_whole m r t f h1 h2 = search (rules, and_parts)
+
+pub bare_fits : (i : Item) (t : Lexeme) (f : List Lexeme) → fits name t.symbol ≡ false → IsItem (t ∷ f) i
+    → fits_all (classes i.row) (t ∷ f) ≡ true
+bare_fits i t f n p = bare_whole (length i.labels) i.row t f n (item_fits (t ∷ f) i p)
 
 -- a name begins no row
 named_row : (r : Row) (t : Lexeme) (f : List Lexeme) → Contains table r → fits name t.symbol ≡ true
@@ -50,28 +56,27 @@ named_row r t f k n h = by_classes (classes r) (row_starts r k) h
     by_classes : (cs : List Class) → starts_reserved cs ≡ true → fits_front cs (t ∷ f) ≡ true → ⊥
     by_classes cs h1 h2 = search (rules, overlap_sound, and_parts)
 
--- the tokens that fit labels and a row are an item
-abbrev pub item_of : ℕ → Row → List Lexeme → Item
-item_of m r ts = record { labels = names_at (label_classes m) ts; row = r; body = drop (m + m) ts }
-
-pub form_of : (m : ℕ) (r : Row) (ts : List Lexeme) → Contains table r → fits_all (classes_of m r) ts ≡ true
-    → IsItem ts (item_of m r ts)
-form_of m r ts k f = record { count = m; row = k; fits = f; labels = refl; body = refl }
-
 -- a label with its colon
 after_label : (t u : Lexeme) (ts : List Lexeme) → fits name t.symbol ≡ true → BeginsItem (t ∷ u ∷ ts) → BeginsItem ts
-after_label t u ts n b = grind (arith, named_row, and_parts)
+after_label t u ts n b = by_count r.count r.row r.known r.fits
+  where
+    r : Reading (t ∷ u ∷ ts)
+    r = reading_of (t ∷ u ∷ ts) b
+
+    by_count : (m : ℕ) (r : Row) → Contains table r → fits_front (classes_of m r) (t ∷ u ∷ ts) ≡ true → BeginsItem ts
+    by_count zero r k f = absurd (named_row r t (u ∷ ts) k n f)
+    by_count (suc m) r k f = begins_by ts (record {
+      count = m;
+      row = r;
+      known = k;
+      fits = (and_parts (fits (the_mark 58) u.symbol) _ (and_parts (fits name t.symbol) _ f).1).1;
+    })
 
 pub label_goes : (t u : Lexeme) (ts : List Lexeme) (n : ℕ) → fits name t.symbol ≡ true
     → fits (the_mark 58) u.symbol ≡ true → Goes n ts → Goes (suc (suc n)) (t ∷ u ∷ ts)
 label_goes t u ts n a b g = record {
   within = omega (arith, g.within);
-  begins = record {
-    count = suc g.begins.count;
-    row = g.begins.row;
-    known = g.begins.known;
-    fits = rw (a, b, g.begins.fits) refl;
-  };
+  begins = (g.begins.0, _, label_before t u (take n ts ++ g.begins.0) g.begins.1 a b g.begins.2);
   no_farther = λ l h. g.no_farther (omega arith) (after_label t u (take (suc n) ts) a h);
 }
 
@@ -79,33 +84,25 @@ pub label_stuck : (t u : Lexeme) (ts : List Lexeme) (n : ℕ) → fits name t.sy
     → fits (the_mark 58) u.symbol ≡ true → Stuck n ts → Stuck (suc (suc n)) (t ∷ u ∷ ts)
 label_stuck t u ts n a b s = record {
   goes = label_goes t u ts n a b s.goes;
-  none = λ i form. by_count i form.row form.count form.fits;
+  none = λ i p. by_count i p.form.known (length i.labels) (item_fits (t ∷ u ∷ take n ts) i p);
 }
   where
     by_count : (i : Item) → Contains table i.row → (m : ℕ)
         → fits_all (classes_of m i.row) (t ∷ u ∷ take n ts) ≡ true → ⊥
     by_count i k zero h = named_row i.row t (u ∷ take n ts) k a (whole_front (classes i.row) (t ∷ u ∷ take n ts) h)
     by_count i k (suc m) h =
-        s.none (item_of m i.row (take n ts)) (form_of m i.row (take n ts) k
-        (and_parts (fits (the_mark 58) u.symbol) _ (and_parts (fits name t.symbol) _ h).1).1)
+        let more = (and_parts (fits (the_mark 58) u.symbol) _ (and_parts (fits name t.symbol) _ h).1).1 in
+        let j = item_by m i.row (take n ts) k more in
+        s.none j.0 j.1
 
 -- an item after one more label
 pub label_item : (t u : Lexeme) (ts : List Lexeme) (n : ℕ) (item : Item) → fits name t.symbol ≡ true
     → fits (the_mark 58) u.symbol ≡ true → IsNextItem ts n item → IsNextItem (t ∷ u ∷ ts) (suc (suc n))
     (record { labels = t ∷ item.labels; row = item.row; body = item.body })
-label_item t u ts n item a b next =
-    let twice : suc next.is_item.count + suc next.is_item.count ≡ suc (suc (next.is_item.count + next.is_item.count)) =
-    omega arith in
-    record {
-      goes = label_goes t u ts n a b next.goes;
-      is_item = record {
-        count = suc next.is_item.count;
-        row = next.is_item.row;
-        fits = rw (a, b, next.is_item.fits) refl;
-        labels = ap (λ ls. t ∷ ls) next.is_item.labels;
-        body = next.is_item.body ∙ ap (λ k. drop k (t ∷ u ∷ take n ts)) (sym twice);
-      };
-    }
+label_item t u ts n item a b next = record {
+  goes = label_goes t u ts n a b next.goes;
+  is_item = label_before t u (take n ts) item a b next.is_item;
+}
 
 -- a name without a colon
 pub name_stuck : (t : Lexeme) (ts : List Lexeme) → fits name t.symbol ≡ true → starts_with_colon ts ≡ false
@@ -113,10 +110,10 @@ pub name_stuck : (t : Lexeme) (ts : List Lexeme) → fits name t.symbol ≡ true
 name_stuck t ts a c = record {
   goes = record {
     within = omega arith;
-    begins = record { count = 1; row = some_known.0; known = some_known.1; fits = rw a refl };
-    no_farther = λ l b. farther ts c b.row b.known b.count b.fits (omega arith);
+    begins = begins_by (t ∷ []) (record { count = 1; row = some_known.0; known = some_known.1; fits = rw a refl });
+    no_farther = λ l b. let r = reading_of (t ∷ take 1 ts) b in farther ts c r.row r.known r.count r.fits (omega arith);
   };
-  none = λ i form. whole i form.row form.count form.fits;
+  none = λ i p. whole i p.form.known (length i.labels) (item_fits (t ∷ []) i p);
 }
   where
     farther : (us : List Lexeme) → starts_with_colon us ≡ false → (r : Row) → Contains table r → (m : ℕ)
@@ -169,14 +166,17 @@ module _ (w : List ℕ) (at : ℕ) (us : List Lexeme) (m : Mnemonic) (best : Mat
       let within = (common_prefix_len-le (λ c (t : Lexeme). fits c t.symbol) (row_of best.row).operand us).1 in
       record {
         within = omega (arith, within, b.size);
-        begins = record {
+        begins = begins_by (lexeme w at ∷ take best.len us) (record {
           count = 0;
           row = row_of best.row;
           known = row_known m (row_of best.row) p b.known;
           fits = fit;
-        };
-        no_farther = λ l h. let k = most (suc best.len) h.row h.known (omega arith)
-            (bare_front h.count h.row (lexeme w at) (take (suc best.len) us) no_name h.fits) in omega (arith, k.1);
+        });
+        no_farther = λ l h.
+            let r = reading_of (lexeme w at ∷ take (suc best.len) us) h in
+            let k = most (suc best.len) r.row r.known (omega arith)
+            (bare_front r.count r.row (lexeme w at) (take (suc best.len) us) no_name r.fits) in
+            omega (arith, k.1);
       }
 
   pub mnemonic_whole : length (row_of best.row).operand ≡ best.len
@@ -190,14 +190,13 @@ module _ (w : List ℕ) (at : ℕ) (us : List Lexeme) (m : Mnemonic) (best : Mat
       let all = front_whole (classes (row_of best.row)) (lexeme w at ∷ take best.len us) fit (omega (arith, h)) in
       rw h (record {
         goes = goes;
-        is_item = form_of 0 (row_of best.row) _ (row_known m (row_of best.row) p b.known) all;
+        is_item = bare_item (row_of best.row) _ (row_known m (row_of best.row) p b.known) all;
       })
 
   pub mnemonic_part : length (row_of best.row).operand ≢ best.len → Stuck (suc best.len) (lexeme w at ∷ us)
   mnemonic_part h = record {
     goes = goes;
-    none = λ i form. whole i.row form.row
-        (bare_whole form.count i.row (lexeme w at) (take best.len us) no_name form.fits);
+    none = λ i q. whole i.row q.form.known (bare_fits i (lexeme w at) (take best.len us) no_name q);
   }
     where
       whole : (r : Row) → Contains table r → fits_all (classes r) (lexeme w at ∷ take best.len us) ≡ true → ⊥
@@ -213,10 +212,25 @@ module _ (w : List ℕ) (at : ℕ) (us : List Lexeme) (m : Mnemonic) (best : Mat
 -- no row begins with the first token
 pub none_begins : (t : Lexeme) (us : List Lexeme) → fits name t.symbol ≡ false
     → ((r : Row) → Contains table r → fits (the_word r.mnemonic) t.symbol ≡ true → ⊥) → Stuck 0 (t ∷ us)
-none_begins t us s none = grind (arith, begins_none, some_known, and_parts, bare_front, no_classes)
+none_begins t us s none = record {
+  goes = record {
+    within = omega arith;
+    begins = begins_none some_known.0 some_known.1;
+    no_farther = λ l b. let r = reading_of (t ∷ []) b in
+        none r.row r.known (and_parts _ _ (bare_front r.count r.row t [] s r.fits)).0;
+  };
+  none = no_item;
+}
 
 pub end_stuck : Stuck 0 []
-end_stuck = grind (arith, begins_none, some_known, no_classes)
+end_stuck = record {
+  goes = record {
+    within = omega arith;
+    begins = begins_none some_known.0 some_known.1;
+    no_farther = λ l b. absurd (omega (arith, l));
+  };
+  none = no_item;
+}
 
 pub reserved_stuck : (ts : List Lexeme) (w : List ℕ) (at : ℕ) (us : List Lexeme) → ts ≡ lexeme w at ∷ us
     → is_one_of mnemonic_words w ≡ false → is_reserved w ≡ true → Stuck 0 ts

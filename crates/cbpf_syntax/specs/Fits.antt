@@ -52,10 +52,3 @@ fits_all [] [] = true
 fits_all [] (t ∷ ts) = false
 fits_all (c ∷ cs) [] = false
 fits_all (c ∷ cs) (t ∷ ts) = fits c t.symbol && fits_all cs ts
-
--- the tokens fit the classes one by one, of which there may be more
-abbrev pub fits_front : List Class → List Lexeme → Bool
-fits_front [] [] = true
-fits_front [] (t ∷ ts) = false
-fits_front (c ∷ cs) [] = true
-fits_front (c ∷ cs) (t ∷ ts) = fits c t.symbol && fits_front cs ts

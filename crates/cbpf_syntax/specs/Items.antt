@@ -1,10 +1,9 @@
--- The items of a token list, instructions with their labels, as the forms of `Table` make them (of the kernel's
--- Documentation/networking/filter, and this project's own), and what begins a list of items.
-use Rattle.std.specs.Prelude.{◌≡◌, ℕ, zero, suc, ◌+◌, true, List, [], ◌∷◌, ◌++◌, drop, Contains}
-use Rattle.cbpf_syntax.specs.Classes.{Class}
+-- The items of a token list, instructions with their labels, as the forms of `Table` (of the kernel's
+-- Documentation/networking/filter, and this project's own) make them, and what begins a list of items.
+use Rattle.std.specs.Prelude.{◌≡◌, true, List, [], ◌∷◌, ◌++◌, Contains}
 use Rattle.cbpf_syntax.specs.Lexemes.{Lexeme}
-use Rattle.cbpf_syntax.specs.Fits.{fits_all, fits_front}
-use Rattle.cbpf_syntax.specs.Classes.Class.{the_word, the_mark, literal, negated, exactly, extension, name}
+use Rattle.cbpf_syntax.specs.Fits.{fits, fits_all}
+use Rattle.cbpf_syntax.specs.Classes.Class.{the_mark, name}
 use Rattle.cbpf_syntax.specs.Table.{Row, classes, table}
 
 -- one instruction: its labels, its row of the table, and its tokens after the labels
@@ -13,40 +12,24 @@ pub record Item : Type 0 where
   pub row : Row
   pub body : List Lexeme
 
--- the classes of labels, each with its colon
-abbrev pub label_classes : ℕ → List Class
-label_classes zero = []
-label_classes (suc count) = name ∷ the_mark 58 ∷ label_classes count
+-- the tokens are these labels, each a name with a colon after it
+abbrev pub AreLabels : List Lexeme → List Lexeme → Type 0
+AreLabels [] [] = Unit {0}
+AreLabels (t ∷ colon ∷ ts) (label ∷ labels) = (t ≡ label) × (fits name t.symbol ≡ true)
+    × (fits (the_mark 58) colon.symbol ≡ true) × AreLabels ts labels
+AreLabels ts labels = ⊥
 
--- the classes of an item: so many labels, and a row
-abbrev pub classes_of : ℕ → Row → List Class
-classes_of count row = label_classes count ++ classes row
+-- the tokens after the labels fit the row, which is one of the table
+pub record HasForm (item : Item) : Type 0 where
+  pub known : Contains table item.row
+  pub fits : fits_all (classes item.row) item.body ≡ true
 
--- the tokens that stand at names
-abbrev pub when_name : Class → Lexeme → List Lexeme
-when_name (the_word w) t = []
-when_name (the_mark b) t = []
-when_name literal t = []
-when_name negated t = []
-when_name (exactly m) t = []
-when_name extension t = []
-when_name name t = t ∷ []
-
-abbrev pub names_at : List Class → List Lexeme → List Lexeme
-names_at [] ts = []
-names_at (c ∷ cs) [] = []
-names_at (c ∷ cs) (t ∷ ts) = when_name c t ++ names_at cs ts
-
--- the tokens are an item: they fit its labels and a row of the table
+-- the tokens are the item: its labels, each with its colon, and then its other tokens
 pub record IsItem (tokens : List Lexeme) (item : Item) : Type 0 where
-  -- the number of labels, each of which is a word and a colon
-  pub count : ℕ
-  pub row : Contains table item.row
-  pub fits : fits_all (classes_of count item.row) tokens ≡ true
-  -- the words of the labels, without the colons
-  pub labels : item.labels ≡ names_at (label_classes count) tokens
-  -- the tokens after the labels
-  pub body : item.body ≡ drop (count + count) tokens
+  pub before : List Lexeme
+  pub labels : AreLabels before item.labels
+  pub form : HasForm item
+  pub all : tokens ≡ before ++ item.body
 
 -- the tokens are these items, one after another
 abbrev pub Items : List Lexeme → List Item → Type 0
@@ -54,14 +37,10 @@ Items tokens [] = tokens ≡ []
 Items tokens (item ∷ items) = (front : List Lexeme) × (rest : List Lexeme) × (tokens ≡ front ++ rest)
     × IsItem front item × Items rest items
 
--- the tokens begin an item: they are the front of what fits labels and a row
-pub record BeginsItem (tokens : List Lexeme) : Type 0 where
-  pub count : ℕ
-  pub row : Row
-  pub known : Contains table row
-  pub fits : fits_front (classes_of count row) tokens ≡ true
+-- the tokens begin an item: with some tokens after them, or with none, they are one
+abbrev pub BeginsItem : List Lexeme → Type 0
+BeginsItem tokens = (more : List Lexeme) × (item : Item) × IsItem (tokens ++ more) item
 
--- the tokens begin items: they are items, and then what begins one
+-- the tokens begin items: with some tokens after them, or with none, they are items
 abbrev pub BeginsItems : List Lexeme → Type 0
-BeginsItems tokens = (front : List Lexeme) × (rest : List Lexeme) × (items : List Item) × (tokens ≡ front ++ rest)
-    × Items front items × BeginsItem rest
+BeginsItems tokens = (more : List Lexeme) × (items : List Item) × Items (tokens ++ more) items

@@ -1,6 +1,6 @@
 -- The item at the front of a token list, and how far the tokens go where there is none, by the forms of `Table` (of the
 -- kernel's Documentation/networking/filter, and this project's own).
-use Rattle.std.specs.Prelude.{◌≡◌, ◌≤◌, ◌<◌, ℕ, suc, Bool, true, false, ◌&&◌, List, [], ◌∷◌, length, take}
+use Rattle.std.specs.Prelude.{◌≤◌, ◌<◌, ℕ, suc, Bool, false, ◌&&◌, List, [], ◌∷◌, length, take}
 use Rattle.std.specs.Prelude.{Result, Ok, Err}
 use Rattle.cbpf_syntax.specs.declared.item.Row as declared_row
 use Rattle.cbpf_syntax.specs.Lexemes.{Lexeme}
@@ -32,12 +32,6 @@ starts_with_colon (t ∷ ts) = fits (the_mark 58) t.symbol
 abbrev pub starts_with_label : List Lexeme → Bool
 starts_with_label [] = false
 starts_with_label (t ∷ ts) = fits name t.symbol && starts_with_colon ts
-
--- each token is the word of a label or the colon after it
-abbrev pub AreLabels : List Lexeme → Type 0
-AreLabels [] = Unit {0}
-AreLabels (t ∷ []) = ⊥
-AreLabels (t ∷ u ∷ ts) = (fits name t.symbol ≡ true) × (fits (the_mark 58) u.symbol ≡ true) × AreLabels ts
 
 -- `Ok row`: the row stands at the front, and no beginning of an item there is longer. `Err n`: the first n tokens are the
 -- longest beginning of an item there, and are no item.

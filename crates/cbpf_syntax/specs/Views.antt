@@ -1,6 +1,6 @@
 -- What the reader's own types stand for: lexemes, classes, and the rows of `Table` (of the kernel's
 -- Documentation/networking/filter, and this project's own).
-use Rattle.std.specs.Prelude.{List, [], ◌∷◌, map}
+use Rattle.std.specs.Prelude.{List, map}
 use Rattle.cbpf_syntax.specs.declared.class.Class.{Class}
 use Rattle.cbpf_syntax.specs.declared.class.Class.TheVariants.{Word, Mark, Literal, Negated, Exactly, Extension, Name}
 use Rattle.cbpf_syntax.specs.declared.mode.Mode.{Mode}
@@ -61,9 +61,3 @@ lexeme_of t = record { symbol = symbol_of t.symbol; at = t.at }
 
 abbrev pub row_of : Row → tables.Row
 row_of r = record { mnemonic = r.mnemonic.now; operand = map class_of r.operand.now; op = r.op; fields = r.fields }
-
--- the words of labels, each of which stands before its colon
-abbrev pub label_words : List lexemes.Lexeme → List lexemes.Lexeme
-label_words [] = []
-label_words (t ∷ []) = []
-label_words (t ∷ u ∷ ts) = t ∷ label_words ts

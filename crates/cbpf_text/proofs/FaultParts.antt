@@ -5,7 +5,7 @@ use Rattle.std.proofs.Common.{append-nil, length-append}
 use Rattle.cbpf_syntax.specs.Tokens.{line_of}
 use Rattle.cbpf_syntax.specs.Refusals.{ParseFault, IsAccepted, ItemsStuckAt, IsFirstRefusalAtPlace}
 use Rattle.cbpf_syntax.specs.Lexemes.{Lexeme, AreLexemes}
-use Rattle.cbpf_syntax.specs.Items.{Item, Items}
+use Rattle.cbpf_syntax.specs.Items.{Item, AreLabels, Items}
 use Rattle.cbpf_code.specs.declared.insn.Insn.{Insn}
 use Rattle.cbpf_text.specs.declared.fault.AsmFault.{AsmFault}
 use Rattle.cbpf_text.specs.declared.fault.AsmKind.{AsmKind}
@@ -17,16 +17,16 @@ use Rattle.cbpf_text.specs.Refusals.IsTokensFault.{of_grammar, of_items}
 use Rattle.cbpf_text.specs.Refusals.IsTextFault.{of_piece, of_tokens}
 use Rattle.cbpf_text.specs.declared.fault.AsmFault.TheVariants as faults
 use Rattle.std.proofs.lemmas.List.{length-map, length-take-le, drop_at, nil_from_length}
-use Rattle.cbpf_syntax.specs.Views.{lexeme_of, row_of, label_words}
+use Rattle.cbpf_syntax.specs.Views.{lexeme_of, row_of}
 use Rattle.cbpf_syntax.specs.Ahead.{Ahead, HasTaken, IsFirstLarge, MayRemain}
 use Rattle.std.specs.Prelude.{Ok}
 use Rattle.std.proofs.Math.Seq.{take-append_seam}
 use Rattle.std.proofs.lemmas.Bool.{and_parts}
 use Rattle.cbpf_syntax.specs.Classes.Class.{the_mark, name}
 use Rattle.cbpf_syntax.specs.Fits.{fits}
-use Rattle.cbpf_syntax.specs.Steps.{IsFoundInstruction, IsNextItem, Stuck, AreLabels, starts_with_label}
+use Rattle.cbpf_syntax.specs.Steps.{IsFoundInstruction, IsNextItem, Stuck, starts_with_label}
 use Rattle.cbpf_syntax.proofs.Greedy.{Greedy, stuck_first}
-use Rattle.cbpf_syntax.proofs.Ahead.{labels_item, labels_stuck, labels_append}
+use Rattle.cbpf_syntax.proofs.Ahead.{labels_item, labels_stuck, labels_append, labels_size}
 use Rattle.cbpf_syntax.proofs.Taking.{remains}
 use Rattle.cbpf_syntax.proofs.Refused.{greedy_snoc, greedy_items, stuck_from}
 use Rattle.cbpf_syntax.proofs.FirstRefusal.{large_refused}
@@ -79,23 +79,11 @@ pub items_large_refused : (ts : List Lexeme) (is : List Item) (at : ℕ) → Ite
 items_large_refused ts is at p h = of_grammar ParseFault.LargeNegative at (large_refused ts is at p h)
 
 -- What the reader of items stands at: the tokens that were taken, before those that follow,
--- are the items and then labels of these words, which wait for theirs.
+-- are the items and then these labels, which wait for theirs.
 pub record Taken (taken : List Lexeme) (is : List Item) (ws more : List Lexeme) : Type 0 where
   pub ls : List Lexeme
-  pub labels : AreLabels ls
-  pub words : label_words ls ≡ ws
+  pub labels : AreLabels ls ws
   pub greedy : Greedy (taken ++ more) is (ls ++ more)
-
-words_on : (ls : List Lexeme) (x y : Lexeme) → AreLabels ls
-    → label_words (ls ++ (x ∷ y ∷ [])) ≡ label_words ls ++ (x ∷ [])
-words_on [] x y a = refl
-words_on (t ∷ []) x y a = absurd a
-words_on (t ∷ u ∷ ls) x y a = ap (λ us. t ∷ us) (words_on ls x y a.2)
-
-words_size : (ls : List Lexeme) → AreLabels ls → length ls ≡ length (label_words ls) + length (label_words ls)
-words_size [] a = refl
-words_size (t ∷ []) a = absurd a
-words_size (t ∷ u ∷ ls) a = omega (arith, words_size ls a.2)
 
 front_label : (taken : List Lexeme) (is : List Item) (ws : List Lexeme) (x y : Lexeme) (more : List Lexeme)
     → Taken taken is ws (x ∷ y ∷ more) → starts_with_label (x ∷ y ∷ more) ≡ true
@@ -104,8 +92,7 @@ front_label taken is ws x y more f starts =
     let label = and_parts (fits name x.symbol) (fits (the_mark 58) y.symbol) starts in
     record {
       ls = f.ls ++ (x ∷ y ∷ []);
-      labels = labels_append f.ls (x ∷ y ∷ []) f.labels (label.0, label.1, tt);
-      words = words_on f.ls x y f.labels ∙ ap (λ us. us ++ (x ∷ [])) f.words;
+      labels = labels_append f.ls ws (x ∷ y ∷ []) (x ∷ []) f.labels (refl, label.0, label.1, tt);
       greedy = rw (append_assoc taken (x ∷ y ∷ []) more, append_assoc f.ls (x ∷ y ∷ []) more) f.greedy;
     }
 
@@ -114,18 +101,17 @@ front_item : (taken : List Lexeme) (is : List Item) (ws body more : List Lexeme)
     → IsNextItem (body ++ more) (length body) (record item { labels = [] })
     → Taken (taken ++ body) (is ++ (item ∷ [])) [] more
 front_item taken is ws body more item f e next =
-    let labels : label_words f.ls ++ [] ≡ item.labels = append-nil (label_words f.ls) ∙ (f.words ∙ sym e) in
+    let labels : ws ++ [] ≡ item.labels = append-nil ws ∙ sym e in
     let whole : IsNextItem (f.ls ++ (body ++ more)) (length f.ls + length body) item =
     subst (λ (us : List Lexeme). IsNextItem (f.ls ++ (body ++ more)) (length f.ls + length body)
     (record item { labels = us })) labels
-    (labels_item f.ls (body ++ more) (length body) (record item { labels = [] }) f.labels next) in
+    (labels_item f.ls ws (body ++ more) (length body) (record item { labels = [] }) f.labels next) in
     let rest : drop (length f.ls + length body) (f.ls ++ (body ++ more)) ≡ more =
     ap (λ us. drop (length f.ls + length body) us) (sym (append_assoc f.ls body more))
     ∙ drop_at (f.ls ++ body) more (length f.ls + length body) (length-append f.ls body) in
     record {
       ls = [];
       labels = tt;
-      words = refl;
       greedy = subst (λ us. Greedy us (is ++ (item ∷ [])) more) (sym (append_assoc taken body more))
           (subst (λ us. Greedy (taken ++ (body ++ more)) (is ++ (item ∷ [])) us) rest
           (greedy_snoc (taken ++ (body ++ more)) is (f.ls ++ (body ++ more)) (length f.ls + length body) item
@@ -202,10 +188,10 @@ module _ {text : List ℕ} {taken : List Lexeme} {o : Option ℕ} {ss : List Sta
       → Stuck k ts → ItemsStuckAt (taken ++ ts) (length taken + k)
   state_stuck k ts t some stuck =
       let f = s.front ts t in
-      let labels = rw f.words at (words_size f.ls f.labels) in
+      let labels = labels_size f.ls s.words f.labels in
       let inside : 0 < length (f.ls ++ ts) = omega (arith, some, labels, length-append f.ls ts) in
       let all = stuck_from (taken ++ ts) s.is (f.ls ++ ts) (length f.ls + k) f.greedy inside
-      (stuck_first (length f.ls + k) (f.ls ++ ts) inside (labels_stuck f.ls ts k f.labels stuck)) in
+      (stuck_first (length f.ls + k) (f.ls ++ ts) inside (labels_stuck f.ls s.words ts k f.labels stuck)) in
       let e : all.0 + (length f.ls + k) ≡ length taken + k =
       omega (arith, all.1, length-append taken ts, length-append f.ls ts) in
       subst (λ j. ItemsStuckAt (taken ++ ts) j) e all.2
@@ -214,7 +200,7 @@ module _ {text : List ℕ} {taken : List Lexeme} {o : Option ℕ} {ss : List Sta
   pub state_items : waits ≡ false → AreLexemes text taken → Items taken s.is × IsDraft o ss rep look s.is []
   state_items quiet t =
       let f = s.front [] (rw append-nil t) in
-      let none = rw (f.words, s.none quiet) at (words_size f.ls f.labels) in (
+      let none = rw (s.none quiet) at (labels_size f.ls s.words f.labels) in (
         greedy_items taken s.is (rw (nil_from_length f.ls (omega (arith, none)), append-nil) at f.greedy),
         subst (λ us. IsDraft o ss rep look s.is us) (s.none quiet) s.draft,
       )
@@ -232,5 +218,5 @@ state_init text ss rep look e h = record {
   none = λ z. refl;
   some = λ z. let k : false ≡ true = z in cc;
   draft = subst (λ us. IsKept us rep look [] []) (sym e) (record { same = tt; set = h; most = omega arith });
-  front = λ ts t. record { ls = []; labels = tt; words = refl; greedy = refl };
+  front = λ ts t. record { ls = []; labels = tt; greedy = refl };
 }

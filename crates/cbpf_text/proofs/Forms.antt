@@ -13,12 +13,12 @@ use Rattle.cbpf_syntax.specs.Classes.Class.{the_mark, name}
 use Rattle.cbpf_syntax.specs.Lexemes.{Lexeme}
 use Rattle.cbpf_syntax.specs.Fits.{fits, fits_all}
 use Rattle.cbpf_syntax.specs.Table.{Row, classes, table, mnemonics}
-use Rattle.cbpf_syntax.specs.Items.{Item, Items, IsItem, names_at, label_classes}
+use Rattle.cbpf_syntax.specs.Items.{Item, HasForm, Items}
 use Rattle.cbpf_syntax.proofs.Elements.{list_all_at}
 use Rattle.cbpf_text.specs.declared.fault.AsmKind.{AsmKind}
 use Rattle.cbpf_text.specs.declared.draft.Target.{Target}
 use Rattle.cbpf_text.specs.declared.draft.Statement.{Statement}
-use Rattle.cbpf_text.specs.Operands.{HasForm, targets_in}
+use Rattle.cbpf_text.specs.Operands.{names_at, targets_in}
 use Rattle.cbpf_text.specs.Refusals.{Use, is_conditional, use_fault, uses_fault, uses_of}
 use Rattle.cbpf_text.specs.Assembled.{offset_of, with_fields, insn_of}
 use Rattle.cbpf_text.specs.Drafts.{KeepsLabel, AreTargets, IsStatement, IsAnswer}
@@ -58,20 +58,10 @@ pub form_takes : (item : Item) → HasForm item → takes item.row.fields (lengt
 form_takes item h =
     ap (takes item.row.fields) (names_count (classes item.row) item.body h.fits) ∙ row_takes item.row h.known
 
-after_labels : (n : ℕ) (cs : List Class) (ts : List Lexeme) → fits_all (label_classes n ++ cs) ts ≡ true
-    → fits_all cs (drop (n + n) ts) ≡ true
-after_labels zero cs ts e = e
-after_labels (suc n) cs [] e = let k : false ≡ true = e in cc
-after_labels (suc n) cs (t ∷ []) e = let k : false ≡ true = (and_parts (fits name t.symbol) false e).1 in cc
-after_labels (suc n) cs (t ∷ u ∷ ts) e =
-    let m : suc n + suc n ≡ suc (suc (n + n)) = omega arith in
-    rw m (after_labels n cs ts (and_parts (fits (the_mark 58) u.symbol) _ (and_parts (fits name t.symbol) _ e).1).1)
-
 -- the items of a token list have their forms
 pub items_forms : (ts : List Lexeme) (is : List Item) → Items ts is → All HasForm is
 items_forms ts [] p k d l = absurd (omega arith)
-items_forms ts (i ∷ is) p zero d l = let f : IsItem p.0 i = p.3 in
-    record { known = f.row; fits = rw f.body (after_labels f.count (classes i.row) p.0 f.fits) }
+items_forms ts (i ∷ is) p zero d l = p.3.form
 items_forms ts (i ∷ is) p (suc k) d l = items_forms p.1 is p.4 k d (omega arith)
 
 -- where the first fault is reported, or is none

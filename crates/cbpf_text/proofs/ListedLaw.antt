@@ -5,7 +5,7 @@ use Rattle.std.proofs.Common.{length, refl, sym, subst, arith, inl, inr, ◌++�
 use Rattle.std.specs.Prelude.{bytes_eq, decimal, All, is_some, slice_get, Ok, Err}
 use Rattle.std.proofs.lemmas.Fmt.{decimal_injective}
 use Rattle.cbpf_syntax.specs.Lexemes.{Lexeme}
-use Rattle.cbpf_syntax.specs.Items.{Item, IsItem, Items, names_at}
+use Rattle.cbpf_syntax.specs.Items.{Item, HasForm, IsItem, Items}
 use Rattle.cbpf_syntax.proofs.Apart.{equal_bytes, bytes_eq_self}
 use Rattle.cbpf_text.specs.Labels.{name_of, labels_from, item_named, repeat_after}
 use Rattle.cbpf_text.proofs.Encoding.{fault_append}
@@ -27,7 +27,7 @@ use Rattle.cbpf_code.specs.Listing.{numbered_line, operand_text, listing}
 use Rattle.cbpf_text.specs.Assembled.{insn_of, insns_from, Assembles, TokensAssemble}
 use Rattle.cbpf_text.specs.Refusals.{uses_of, uses_from, uses_fault}
 use Rattle.cbpf_code.specs.Opcode.{code_of}
-use Rattle.cbpf_text.specs.Operands.{literal_of}
+use Rattle.cbpf_text.specs.Operands.{literal_of, names_at}
 use Rattle.cbpf_code.specs.WordForm.{InRange}
 use Rattle.cbpf_code.specs.Extension.{ext_at}
 use Rattle.cbpf_text.proofs.ListedRows.{IsWord, HasRow, first_byte, later_bytes, mnemonic_word, plain_as, plain_is}
@@ -194,12 +194,13 @@ line_form : (at i : ℕ) (op : Op) (named : Bool) (operand : List Segment) → i
     → IsItem (line_tokens at i (mnemonic_of op) operand)
     (line_item at i (mnemonic_of op) operand (operation_row named op).row)
 line_form at i op named operand l fits = record {
-  count = 1;
-  row = r.known;
-  fits = and_from _ _ (label_fits i l) (rw (r.mnemonic, r.operand, (mnemonic_word op).0)
-      (and_from _ _ (bytes_eq_self (mnemonic_of op)) fits));
-  labels = refl;
-  body = refl;
+  before = label_token at i ∷ colon_token at i ∷ [];
+  labels = (refl, label_fits i l, refl, tt);
+  form = record {
+    known = r.known;
+    fits = rw (r.mnemonic, r.operand, (mnemonic_word op).0) (and_from _ _ (bytes_eq_self (mnemonic_of op)) fits);
+  };
+  all = refl;
 }
   where
     r : HasRow named op

@@ -15,7 +15,7 @@ use Rattle.cbpf_code.proofs.TableLemmas.{ext_only}
 use Rattle.cbpf_syntax.proofs.Spelled.{Segment, text_of, IsSegment, AreSegments, ends_name, stay_apart}
 use Rattle.cbpf_syntax.proofs.Spelled.Segment.{blank, word, number, mark}
 use Rattle.cbpf_syntax.specs.Fits.{fits_all, is_one_of, extension_names}
-use Rattle.cbpf_syntax.specs.Items.{names_at}
+use Rattle.cbpf_text.specs.Operands.{names_at}
 use Rattle.cbpf_code.specs.Syntax.{Operand, Operand as operands}
 use Rattle.cbpf_code.specs.Listing.{immediate_operand, operand_text, place_or_name}
 use Rattle.cbpf_syntax.specs.declared.table.Fields.{Fields}

@@ -14,7 +14,7 @@ use Rattle.cbpf_syntax.specs.declared.lexeme.Symbol.TheVariants as symbols
 use Rattle.cbpf_syntax.specs.Classes.{Class}
 use Rattle.cbpf_syntax.specs.Classes.Class.{the_word}
 use Rattle.cbpf_syntax.specs.Lexemes.{Symbol, Lexeme}
-use Rattle.cbpf_syntax.specs.Items.{names_at, when_name}
+use Rattle.cbpf_text.specs.Operands.{names_at, when_name}
 use Rattle.cbpf_syntax.specs.Views.{class_of, symbol_of, lexeme_of}
 use Rattle.cbpf_text.specs.Operands.{value_at, literal_of}
 

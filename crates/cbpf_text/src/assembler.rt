@@ -8,7 +8,7 @@ ghost use Rattle.cbpf_text.specs.Assembled.{Assembles, insns_from};
 ghost use Rattle.cbpf_text.specs.Labels.{labels_from};
 ghost use Rattle.cbpf_text.specs.Drafts.{IsDraft, same_name};
 ghost use Rattle.cbpf_text.specs.Refusals.{ReportedIn, items_fault, IsRefused};
-ghost use Rattle.cbpf_text.specs.Operands.{HasForm};
+ghost use Rattle.cbpf_syntax.specs.Items.{HasForm};
 
 use crate::draft::{Draft, read};
 use crate::encode::encode_all;

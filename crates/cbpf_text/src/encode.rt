@@ -9,7 +9,7 @@ ghost use Rattle.cbpf_text.specs.declared.encode.TheConstants.{FARTHEST};
 ghost use Rattle.cbpf_text.specs.Assembled.{offset_of, insn_of, insns_from};
 ghost use Rattle.cbpf_text.specs.Refusals.{ReportedIn, use_fault, uses_fault, uses_of, uses_from};
 ghost use Rattle.cbpf_text.specs.Drafts.{same_name, Resolves, IsStatement, AreStatements, KeepsLabel, IsAnswer};
-ghost use Rattle.cbpf_text.specs.Operands.{HasForm};
+ghost use Rattle.cbpf_syntax.specs.Items.{HasForm};
 
 use crate::draft::{Statement, Target};
 use crate::fault::{AsmFault, AsmKind};

@@ -1,6 +1,6 @@
 use Rattle.std.proofs.Common.{◌≡◌, ◌≤◌, ◌+◌, ◌-◌, length, map, drop}
 use Rattle.cbpf_code.specs.Opcode.{code_of}
-use Rattle.cbpf_syntax.specs.Items.{names_at}
+use Rattle.cbpf_text.specs.Operands.{names_at}
 use Rattle.cbpf_syntax.specs.Views.{class_of, lexeme_of}
 use Rattle.cbpf_text.specs.Drafts.{AreTargets}
 use Rattle.cbpf_text.specs.Operands.{literal_of}

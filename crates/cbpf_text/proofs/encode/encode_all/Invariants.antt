@@ -6,7 +6,7 @@ use Rattle.cbpf_syntax.specs.Items.{Item}
 use Rattle.cbpf_text.specs.Assembled.{insns_from}
 use Rattle.cbpf_text.specs.Refusals.{uses_fault, uses_from}
 use Rattle.cbpf_text.specs.Drafts.{AreStatements, same_name, Resolves}
-use Rattle.cbpf_text.specs.Operands.{HasForm}
+use Rattle.cbpf_syntax.specs.Items.{HasForm}
 use Rattle.cbpf_text.proofs.encode.encode_all.Given as goal
 
 abbrev pub invariant-loop-i : goal.invariant-loop-i
