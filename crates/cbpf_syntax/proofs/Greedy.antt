@@ -118,9 +118,12 @@ first_of n m ts goes l w b =
     let long : n < length (take m ts ++ b.0) = omega (arith, length-append (take m ts) b.0) in
     let r = first_item n (take m ts ++ b.0) b.1
     (goes_as n ts (take m ts ++ b.0) e (omega arith) long goes) (omega arith) b.2 in
-    let rest : drop n (take m ts ++ b.0) ≡ drop n (take m ts) ++ b.0 = drop-append-le n (take m ts) b.0 (omega arith) in
-    (r.0, r.1, subst (λ x. IsItem x r.0) (sym (front_as n ts (take m ts ++ b.0) e)) r.2,
-        subst (λ x. Items x r.1) rest r.3)
+    let rest : drop n (take m ts ++ b.0) ≡ drop n (take m ts) ++ b.0 = drop-append-le n (take m ts) b.0 (omega arith) in (
+      r.0,
+      r.1,
+      subst (λ x. IsItem x r.0) (sym (front_as n ts (take m ts ++ b.0) e)) r.2,
+      subst (λ x. Items x r.1) rest r.3,
+    )
 
 -- where no item is at the front, the tokens don't go on
 pub stuck_first : (n : ℕ) (ts : List Lexeme) → 0 < length ts → Stuck n ts → ItemsStuckAt ts n

@@ -1,6 +1,6 @@
 -- Items by their forms: how many targets each has, and its mnemonic; and their statements.
-use Rattle.std.proofs.Common.{◌≡◌, refl, sym, ◌∙◌, ap, ℕ, zero, suc, ◌+◌, Bool, true, false, List, [], ◌∷◌, ◌++◌}
-use Rattle.std.proofs.Common.{length, drop, arith, map, Option, Some, None, inl, inr, eqb-true}
+use Rattle.std.proofs.Common.{◌≡◌, refl, sym, ◌∙◌, ap, ℕ, zero, suc, ◌+◌, Bool, true, false, List, [], ◌∷◌}
+use Rattle.std.proofs.Common.{length, arith, map, Option, Some, None, inl, inr, eqb-true}
 use Rattle.std.specs.Prelude.{All, Contains, ◌==◌, ◌||◌, slice_get, Result, Ok, Err}
 use Rattle.std.specs.List.{list_all}
 use Rattle.std.specs.Option.{option_or}
@@ -9,7 +9,7 @@ use Rattle.cbpf_code.specs.declared.insn.Insn.{Insn}
 use Rattle.cbpf_syntax.specs.declared.table.Fields.{Fields}
 use Rattle.cbpf_syntax.specs.declared.table.Fields.TheVariants.{Constant, Goto, Branch, Swapped}
 use Rattle.cbpf_syntax.specs.Classes.{Class}
-use Rattle.cbpf_syntax.specs.Classes.Class.{the_mark, name}
+use Rattle.cbpf_syntax.specs.Classes.Class.{name}
 use Rattle.cbpf_syntax.specs.Lexemes.{Lexeme}
 use Rattle.cbpf_syntax.specs.Fits.{fits, fits_all}
 use Rattle.cbpf_syntax.specs.Table.{Row, classes, table, mnemonics}

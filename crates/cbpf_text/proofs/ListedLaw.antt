@@ -5,7 +5,7 @@ use Rattle.std.proofs.Common.{length, refl, sym, subst, arith, inl, inr, â—Œ++â—
 use Rattle.std.specs.Prelude.{bytes_eq, decimal, All, is_some, slice_get, Ok, Err}
 use Rattle.std.proofs.lemmas.Fmt.{decimal_injective}
 use Rattle.cbpf_syntax.specs.Lexemes.{Lexeme}
-use Rattle.cbpf_syntax.specs.Items.{Item, HasForm, IsItem, Items}
+use Rattle.cbpf_syntax.specs.Items.{Item, IsItem, Items}
 use Rattle.cbpf_syntax.proofs.Apart.{equal_bytes, bytes_eq_self}
 use Rattle.cbpf_text.specs.Labels.{name_of, labels_from, item_named, repeat_after}
 use Rattle.cbpf_text.proofs.Encoding.{fault_append}
