@@ -1,6 +1,7 @@
 -- The listing of a program: a line for each instruction, its mnemonic as `Syntax` has it, and its operand, in the
--- syntax of the kernel's Documentation/networking/filter ("BPF engine and instruction set") where it has one. All else,
--- as the label before each instruction, `l` and its index, and targets as these labels, is this project's own.
+-- syntax of the kernel's Documentation/networking/filter ("BPF engine and instruction set") where it has one. The label
+-- before each instruction, `l` and its index, and targets as these labels, are those of its examples of `disassemble`.
+-- All else is this project's own.
 use Rattle.std.specs.Prelude.{ℕ, ◌+◌, ◌==◌, if◌then◌else◌, List, [], ◌∷◌, ◌++◌, Option, Some, None, slice_get, codes}
 use Rattle.std.specs.Prelude.{decimal}
 use Rattle.std.specs.List.{flat_map, enumerate_from}

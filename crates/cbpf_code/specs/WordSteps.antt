@@ -17,7 +17,8 @@ pub record PassesTokens (text : List ℕ) (due : Due) (at : ℕ) (ns : List ℕ)
   pub good : fault_from text due at ≡ fault_from text next end
   pub spelled : numbers (tokens_from text at) ≡ ns ++ numbers (tokens_from text end)
 
--- `e` is the first thing wrong from a place on; where no token is left there, it may also be `at_end`
+-- `e` is the first thing wrong from a place on. A step that finds no token there may answer `at_end`, even where the
+-- text may end; who asks for the step has looked for the end before.
 abbrev pub IsFaultAt : List ℕ → Due → ℕ → WordFault → WordFault → Type 0
 IsFaultAt text due at e at_end = (fault_from text due at ≡ Some e) ⊎ ((tokens_from text at ≡ []) × (e ≡ at_end))
 

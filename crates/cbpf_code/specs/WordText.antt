@@ -90,7 +90,8 @@ pub record Miscounts (text : List ℕ) (e : WordFault) : Type 0 where
   pub differs : count_of text ≢ length (list_of text)
   pub fault : e ≡ CountDiffers (count_of text) (length (list_of text))
 
--- the fault that the text has; `Memory` says only that the text has five numbers or more, in whatever places
+-- The fault that the text has. `Memory` says only that the text has five numbers or more, in whatever places: room is
+-- first asked for after the count and the four numbers of an instruction.
 abbrev pub Refused : List ℕ → WordFault → Type 0
 Refused text Memory = 5 ≤ length (numbers (tokens text))
 Refused text e = (fault_of text ≡ Some e) ⊎ Miscounts text e

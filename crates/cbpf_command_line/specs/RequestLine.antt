@@ -113,7 +113,7 @@ requested_by sub = if is_why sub then why (why_asked (rows_in sub)) else job (as
 abbrev pub conflict_by : Option (Text × List Row) → Kinds
 conflict_by sub = if is_why sub then conflict_in (rows_in sub) else []
 
--- the words name `why`
+-- the subcommand that the words name is `why`
 unfoldable pub names_why : List Text → Bool
 names_why words = is_why (subcommand_of cbpf_app words)
 
@@ -141,8 +141,8 @@ abbrev pub request_meaning : RequestWords → Requested
 request_meaning (request.Job j) = job (meaning j)
 request_meaning (request.Why w) = why (why_meaning w)
 
--- a line that doesn't name `why` asks for the same job as without `why`, or has a fault of one of the kinds that it has
--- there; the texts of faults may differ, as the help lists `why`
+-- a line whose subcommand isn't `why` asks for the same job as without `why`, or has a fault of one of the kinds that it
+-- may have there; the texts of faults may differ, as the help lists `why`
 abbrev pub AnswersAsWithoutWhy : List Text → Result RequestWords LineFault → Type 0
 AnswersAsWithoutWhy words result = names_why words ≡ false
     → MatchResult result (λ r. (request_meaning r ≡ job (asked_for words)) × (faults_in words ≡ []))

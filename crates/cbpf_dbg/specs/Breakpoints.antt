@@ -1,4 +1,4 @@
--- Breakpoints (Linux Documentation/networking/filter, "BPF debugger", on `breakpoint`),
+-- Breakpoints (Linux Documentation/networking/filter, "BPF engine and instruction set", on `breakpoint` of `bpf_dbg`),
 -- and their conditions (this project's own).
 use Rattle.std.specs.Prelude.{ℕ, nat_eq, Bool, List}
 use Rattle.std.specs.Map.{lookup}

@@ -1,6 +1,7 @@
--- What each command of a session answers, which view it leaves, and how many turns it makes
--- (commands that `bpf_dbg` has, of Linux Documentation/networking/filter, "BPF debugger", do what they do there, but
--- for the differences that docs/KERNEL_TOOLS.md lists; the rest is this project's own).
+-- What each command of a session answers, which view it leaves, and how many turns it makes, except for a step back,
+-- whose trail says it
+-- (commands that `bpf_dbg` has, of Linux Documentation/networking/filter, "BPF engine and instruction set", do what they
+-- do there, but for the differences that docs/KERNEL_TOOLS.md lists; the rest is this project's own).
 use Rattle.std.specs.Prelude.{◌≡◌, ℕ, ◌+◌, ◌-◌, ◌*◌, zero, suc, nat_lt, nat_le, nat_eq, is_some, ◌==◌, ◌&&◌, Bool, true}
 use Rattle.std.specs.Prelude.{List, [], ◌∷◌, ◌++◌, length, slice_get, Option, Some, None, Result, Ok, Err}
 use Rattle.std.specs.Prelude.{if◌then◌else◌, ℤ, pos, negsuc, ◌⊎◌, IsOk}
@@ -210,8 +211,8 @@ abbrev pub last_place : Place → List Stop → Place
 last_place place [] = place
 last_place place (stop ∷ rest) = last_place stop.place rest
 
--- the stops found are the first of those that were ahead, the others are still ahead,
--- and only the place differs: it is the last one's
+-- Where memory runs out, a whole run has found the first of the stops that were ahead. The others are still ahead, and
+-- only the place differs: it is that of the last one that was found.
 pub record Found (old new : View) (old_found new_found : List Stop) : Type 0 where
   pub first : List Stop
   pub after : List Stop

@@ -28,8 +28,8 @@ pub record CanGoOn {A : Type 0} (l : Loaded A) (w : Walk) (spent : ℕ) : Type 0
   pub ends : IsEnd (records_in l) w.cursor.place w.end
   pub spare : spent + owed (machine_in l) (records_in l) w.cursor.place + 2 * MAX_INSTRUCTIONS ≤ 2 ^ 128
 
--- a run goes on to an entry where it pauses, of which the record is the first that is left then, or to before a packet;
--- past no hit, if it pauses at each
+-- A run goes on. If it paused, it is at an entry at which it pauses, and else before a packet. If it pauses at each hit,
+-- it passed none. The records left begin with the one at the new place.
 pub record GoesOn {A : Type 0} (l : Loaded A) (pauses : Registers → Bool) (old new : Walk) (spent_old spent_new : ℕ)
     (paused : Bool) : Type 0 where
   pub passes : Passes (machine_in l) (records_in l) old.cursor new.cursor spent_old spent_new

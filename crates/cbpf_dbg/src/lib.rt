@@ -1,7 +1,7 @@
 //! Sessions of a debugger for classic BPF: what its commands do with a program over the packets of a capture.
 //!
-//! Commands that `bpf_dbg` has (Linux Documentation/networking/filter, "BPF debugger") do what they do there, but for
-//! the differences that docs/KERNEL_TOOLS.md lists; the others are this project's own.
+//! Commands that `bpf_dbg` has (Linux Documentation/networking/filter, "BPF engine and instruction set") do what they do
+//! there, but for the differences that docs/KERNEL_TOOLS.md lists; the others are this project's own.
 #![tactic(auto)]
 
 mod commands;

@@ -1,4 +1,5 @@
--- The replies that show breakpoints (this project's own).
+-- The replies that show breakpoints (the kernel's Documentation/networking/filter shows them for `bpf_dbg`; conditions are
+-- this project's own).
 use Rattle.std.specs.Prelude.{ℕ, List, [], ◌∷◌, ◌++◌, codes, decimal, Option, Some, None}
 use Rattle.std.specs.List.{flat_map}
 use Rattle.cbpf_code.specs.Text.{concat, with_number}

@@ -1,5 +1,5 @@
 -- The lines of a dump: a label, aligned left in ten columns, and what it names
--- (the kernel's Documentation/networking/filter shows such lines; this layout is this project's own).
+-- (as the lines of a dump stand in the kernel's Documentation/networking/filter).
 use Rattle.std.specs.Prelude.{ℕ, ◌-◌, List, [], ◌∷◌, length, codes, decimal}
 use Rattle.cbpf_code.specs.Text.{concat, spaces, hex}
 

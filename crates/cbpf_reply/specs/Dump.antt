@@ -1,5 +1,6 @@
 -- The dump of a stop: what there is before its instruction, and why it stopped
--- (the kernel's Documentation/networking/filter shows such a dump; this layout is this project's own).
+-- (the kernel's Documentation/networking/filter shows such a dump; the line of the place and the reasons for a stop other
+-- than a breakpoint are this project's own).
 use Rattle.std.specs.Prelude.{ℕ, List, [], ◌∷◌, ◌++◌, length, Option, Some, None, slice_get, decimal, codes}
 use Rattle.cbpf_code.specs.declared.insn.Insn.{Insn}
 use Rattle.cbpf_code.specs.Extension.{ext_name}

@@ -1,4 +1,5 @@
--- The packet in a dump, its captured bytes in rows of ROW (this project's own).
+-- The packet in a dump, its captured bytes in rows of ROW (the kernel's Documentation/networking/filter shows such a
+-- dump; `wire:` and the width of the offsets are this project's own).
 use Rattle.std.specs.Prelude.{ℕ, zero, suc, ◌-◌, ◌*◌, List, [], ◌∷◌, ◌++◌, length, take, drop, decimal, codes}
 use Rattle.std.specs.List.{flat_map}
 use Rattle.std.specs.Int.{div_ceil}

@@ -9,7 +9,7 @@ use Rattle.cbpf_syntax.specs.Fits.{fits}
 use Rattle.cbpf_syntax.specs.Items.{Item, IsItem, BeginsItem}
 use Rattle.cbpf_syntax.specs.Views.{row_of}
 
--- the first n tokens begin an item, and with the next one they don't
+-- the first n tokens begin an item, and with the next one, if there is one, they don't
 pub record Goes (n : ℕ) (ts : List Lexeme) : Type 0 where
   pub within : n ≤ length ts
   pub begins : BeginsItem (take n ts)

@@ -6,7 +6,8 @@ use Rattle.cbpf_tool.specs.FileMap.{FileMap}
 use Rattle.cbpf_tool.specs.declared.host.CreateFault.{CreateFault}
 use Rattle.cbpf_tool.specs.declared.host.CreateFault.TheVariants.{NotCreated, Memory}
 
--- what is done with a host: a file is opened, created or written, or not, or a text goes to the standard output
+-- what is done with a host: a file is opened or created, or couldn't be; a file is written; or a text goes to the
+-- standard output
 pub data Event : Type 0 where
   opened : (name : List ℕ) → Event
   not_opened : (name : List ℕ) → Event

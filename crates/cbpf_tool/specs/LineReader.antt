@@ -13,7 +13,8 @@ use Rattle.cbpf_tool.specs.declared.line_reader.LineEnd.TheVariants.{Newline, In
 abbrev pub pending_in : List ℕ → ℕ → ℕ → List ℕ
 pending_in chunk start end = slice_range chunk start end
 
--- it falls with each byte that is taken, and with each read, which gives READ_SIZE bytes at most
+-- The measure of a reader that may still make so many reads. It falls with each byte that is taken. It falls with each
+-- read too, which is made only where no byte is pending, and gives READ_SIZE bytes at most.
 abbrev pub steps_left : ℕ → ℕ → ℕ → ℕ
 steps_left reads start end = (READ_SIZE + 1) * reads + (end - start)
 

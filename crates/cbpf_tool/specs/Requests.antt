@@ -137,7 +137,7 @@ IsRequest (job asked) (request.Job j) = meaning j ≡ asked
 IsRequest (why asked) (request.Why j) = IsWhyJob asked j
 IsRequest _ _ = ⊥
 
--- a request for a job that words without `why` ask for
+-- a request for the job that the words ask of the program without `why`
 abbrev pub IsJobRequest : List (List ℕ) → Request → Type 0
 IsJobRequest words (request.Job j) = meaning j ≡ asked_for words
 IsJobRequest words (request.Why j) = ⊥

@@ -74,7 +74,8 @@ reason_text Outside = codes "outside the packet"
 reason_text ZeroDivisor = codes "division by 0"
 reason_text (Unknown e) = ext_name e ++ codes " has no value"
 
--- the same after other words; nothing for a return, as beside these words only the text of a `ret #k` gives its value
+-- the same after other words; nothing for a return: what a `ret #k` returns stands in the text of its instruction, and
+-- what a `ret a` returns isn't written here
 abbrev pub reason_after : End → List ℕ
 reason_after (Returned v) = []
 reason_after Outside = codes ", outside the packet"

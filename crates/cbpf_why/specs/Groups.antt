@@ -19,8 +19,8 @@ is_in_group i v e = (e.pc == i) && is_verdict v (verdict_of e.reason)
 abbrev pub group : List Ended → ℕ → Verdict → List Ended
 group ends i v = filter (is_in_group i v) ends
 
--- the line of a group, by how many packets it has and its first one. The instruction and the verdict are those of each
--- packet of the group; the reason is the first one's
+-- The line of a group, by how many packets it has and its first one. The instruction, the verdict and the text of the
+-- reason are those of each packet of the group: only what a `ret a` returns may differ, and that isn't written.
 abbrev pub group_line : List Insn → ℕ → Ended → List ℕ
 group_line list count first =
     concat (verdict_in first ∷ codes " " ∷ decimal count ∷ codes " at " ∷ line_text list first.pc

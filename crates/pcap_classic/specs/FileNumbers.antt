@@ -1,5 +1,5 @@
--- Numbers of a capture file, whose bytes stand in the order that the file's magic says (pcap-savefile(5), "File
--- Header").
+-- Numbers of a capture file, whose bytes stand in the order that the file's magic says (pcap-savefile(5), the per-file
+-- header).
 use Rattle.std.specs.Prelude.{ℕ, zero, suc, ◌+◌, ◌*◌, ◌^◌, List, slice_index}
 use Rattle.pcap_classic.specs.declared.captured.Endianness.{Endianness, TheVariants.Big, TheVariants.Little}
 

@@ -1,4 +1,4 @@
--- The records after the file header of a capture, and how they end (pcap-savefile(5), "Packet Header"; that a cut
+-- The records after the file header of a capture, and how they end (pcap-savefile(5), the per-packet header; that a cut
 -- last record is reported by its place is this crate's rule).
 use Rattle.std.specs.Prelude.{◌≡◌, ℕ, ◌+◌, ◌-◌, ◌≤◌, ◌<◌, List, [], ◌∷◌, length, take, drop, slice_get, Some}
 use Rattle.pcap_classic.specs.FileNumbers.{number_at}
