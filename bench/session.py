@@ -264,10 +264,11 @@ def comparisons(folder, file):
     """Runs and lists of stops that can meet something beside the same that can't, over a capture of frames."""
     # One return more, which no packet reaches: the return before it ends each of them.
     arithmetic = programs.words([*programs.ARITHMETIC, "6 0 0 0"])
-    # With each program an instruction that no frame reaches. The first two are the returns that accept: a frame's
-    # header has five words, and it has neither of the flags.
+    # With each program an instruction that no frame reaches. The first and the third are the returns that accept: a
+    # frame's header has five words, and it has neither of the flags. The second is for IPv6.
     for what, words, unreached in [
         ("6 instructions", programs.HEADER, 5),
+        ("24 instructions", programs.PORT, 2),
         ("35 instructions", programs.FLAGS, 42),
         ("arithmetic", arithmetic, len(programs.ARITHMETIC)),
     ]:

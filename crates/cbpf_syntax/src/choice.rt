@@ -87,8 +87,8 @@ fn make_row(mnemonic: &Mnemonic, entry: &TableEntry, form: &'static [Class]) -> 
     }
 }
 
-/// False only if the form can't beat the best row: by more tokens that fit, or by as many where these are all of it
-/// and not all of the row.
+/// Whether the form may beat the best row. It does so by more tokens that fit. It does so also by as many tokens, if
+/// these are all of the form and not all of the row. `false` is certain.
 #[inline(always)]
 fn may_be_better(best: &Match, form: &[Class], tokens: &[Lexeme<'_>]) -> bool
     ensures { result ≡ false → (rs : List tables.Row) (row : tables.Row) → row.operand ≡ map class_of form.now →
