@@ -1,5 +1,6 @@
--- The command line of the program without `why`, and what its words ask for:
--- this project's own, by `clap`'s meaning of a command line.
+-- The command line as the call `command_line` reads it, and what its words ask for: this project's own, by `clap`'s
+-- meaning of a command line. That call is for callers who have only the jobs `asm` and `dbg`, and refuses `why`. The
+-- program itself reads the command line of RequestLine.antt.
 use Rattle.std.specs.Prelude.{◌≡◌, ◌≢◌, ◌⊎◌, ℕ, if◌then◌else◌, Bool, true, false, [], List, Option, Some, None, option_map, codes}
 use Rattle.std.specs.Prelude.{bytes_eq, String}
 use Rattle.std.specs.Option.{option_map_or}
@@ -70,7 +71,7 @@ abbrev pub asked_by : Option (Text × List Row) → Asked
 asked_by None = dbg None None
 asked_by (Some sub) = if bytes_eq sub.0 (codes "asm") then asm_asked sub.1 else dbg_asked sub.1
 
--- what the words ask of the program without `why`
+-- what the words ask of the program without `why`; the first word is the program's own name
 unfoldable pub asked_for : List Text → Asked
 asked_for words = asked_by (subcommand_of app_without_why words)
 

@@ -68,7 +68,8 @@ limited m machine capture next =
 
 -- ---- run
 
--- no stop comes before the limit
+-- no stop comes before the limit: the run goes to before the packet after the limit, or where the capture has no such
+-- packet, to the end
 abbrev pub run_out : View → Machine → List Record → Option ℕ → RunReply × View
 run_out m machine capture None = finished m machine capture
 run_out m machine capture (Some n) =

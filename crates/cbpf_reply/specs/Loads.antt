@@ -1,4 +1,5 @@
--- The replies to a program and to a capture that were loaded (this project's own).
+-- The replies to a program and to a capture that were loaded, and what a summary of `cbpf why` says of a cut capture (this
+-- project's own).
 use Rattle.std.specs.Prelude.{ℕ, ◌++◌, List, [], length, codes}
 use Rattle.pcap_classic.specs.Savefile.{Savefile}
 use Rattle.pcap_classic.specs.declared.ending.Ending.{Ending}
@@ -23,7 +24,8 @@ packets_text count how = with_number (codes "pcap: ") count (codes " packets") +
 abbrev pub capture_text : Savefile → List ℕ
 capture_text c = packets_text (length c.records) c.ending
 
--- the same where it is cut
+-- the same line where the capture is cut, and nothing where it isn't: a summary of `cbpf why`, which shows no reply to a
+-- load, ends with it
 abbrev pub cut_text : ℕ → Ending → List ℕ
 cut_text count Whole = []
 cut_text count (CutHeader place) = packets_text count (CutHeader place)

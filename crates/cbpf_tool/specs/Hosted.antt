@@ -7,7 +7,7 @@ use Rattle.cbpf_tool.specs.declared.host.CreateFault.{CreateFault}
 use Rattle.cbpf_tool.specs.declared.host.CreateFault.TheVariants.{NotCreated, Memory}
 
 -- what is done with a host: a file is opened or created, or couldn't be; a file is written; or a text goes to the
--- standard output
+-- standard output. A file that a command of a script loads is no event.
 pub data Event : Type 0 where
   opened : (name : List ℕ) → Event
   not_opened : (name : List ℕ) → Event

@@ -1,5 +1,5 @@
--- What the jobs do on a host: what is opened, created and written, in which order, and which fault ends
--- a job (this project's own).
+-- What the jobs do on a host: what they open, create and write, in which order, and which fault ends a job (this
+-- project's own). Files that the commands of a script load aren't among these: what they gave stands in the replies.
 use Rattle.std.specs.Prelude.{◌≡◌, ◌⊎◌, ℕ, List, [], ◌∷◌, Option, Some, None, Result, Ok, Err, string_bytes}
 use Rattle.std.specs.FinMap as map
 use Rattle.cbpf_code.specs.declared.form.Form.{Form}

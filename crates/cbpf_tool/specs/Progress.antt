@@ -22,7 +22,7 @@ pub record Kept (f g : FileSource) : Type 0 where
   pub files : g.held ≡ f.held
   pub is_known : g.is_known ≡ f.is_known
 
--- a line has this reply, whose text is written as `Written` says, and the view after it is n
+-- a line has a reply whose text is written as `Written` says, and after which the view is n
 abbrev pub Answers : Held → View → View → ℕ → ℕ → Result (Option Command) CommandFault → (List ℕ → Type 0) → Type 0
 Answers files m n f g said Written = (text : List ℕ) × LineReplies files m f g said (text, n) × Written text
 

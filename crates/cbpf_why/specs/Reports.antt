@@ -87,7 +87,8 @@ pub record WroteFront (report : Report) (ranges : List PacketRange) (m : Machine
   pub few : count ≤ length c.records
   pub wrote : Appended old new (packets_text report m (chosen ranges (take count c.records)))
 
--- what a report on a capture, of which so many packets were read, leaves in its writer
+-- What a report on a capture leaves in its writer. How many packets were read, which is `count`, matters only after a
+-- read that failed and out of memory.
 abbrev pub Reported : Report → List PacketRange → Machine → Savefile → ℕ → Option (List ℕ) → Option (List ℕ)
     → Result (Option CaptureEnd) WhyFault → Type 0
 Reported report ranges m c count old new (Ok end) =
