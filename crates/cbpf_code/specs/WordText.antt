@@ -1,4 +1,5 @@
--- Word text: a count, a comma, and for each instruction its four numbers and a comma, of which the last may be missing.
+-- Word text: a count, a comma, and for each instruction its four numbers and a comma. The comma after the last instruction
+-- may be missing.
 use Rattle.std.specs.Prelude.{◌≡◌, ◌≢◌, ◌≤◌, ℕ, ◌^◌, ◌⊎◌, ◌==◌, nat_lt, if◌then◌else◌, List, [], ◌∷◌, length, drop}
 use Rattle.std.specs.Prelude.{slice_index, Option, Some, None}
 use Rattle.std.specs.Option.{option_or}

@@ -21,7 +21,7 @@ is_comma_at [] i = false
 is_comma_at (t ∷ ts) zero = fits (the_mark 44) t.symbol
 is_comma_at (t ∷ ts) (suc i) = is_comma_at ts i
 
--- Of the rows this one has the most tokens that fit its operand. If its operand isn't filled whole, neither is that of
+-- `ts` are the tokens after the mnemonic. Of the rows this one has the most of them that fit its operand. If its operand isn't filled whole, neither is that of
 -- any other row that as many tokens fit.
 pub record IsBest (rows : List Row) (ts : List Lexeme) (best : Match) : Type 0 where
   pub known : Contains rows (row_of best.row)

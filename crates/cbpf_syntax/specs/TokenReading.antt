@@ -11,6 +11,10 @@ pub record Reading : Type 0 where
   pub text : List ℕ
   pub at : ℕ
 
+-- What comes after a place `at` of a text is one of the next three. They speak of the tokens that the text has up to there:
+-- none up to 0, and one more up to each place to which a call leads. No tokens go up to a place inside a piece, and there
+-- they say nothing.
+
 -- whatever tokens the text has up to `at`, up to `to` it has these and this one
 pub record IsNextToken (text : List ℕ) (at to : ℕ) (token : Token) : Type 0 where
   pub more : (tokens : List Token) → LexesTo text at tokens → LexesTo text to (tokens ++ token ∷ [])
