@@ -10,7 +10,8 @@ abbrev pub fault_from : List ℕ → Due → ℕ → Option WordFault
 fault_from text due at = first_word_fault due (length text) (tokens_from text at)
 
 -- The numbers from `at` on are these and then those from `end` on. The first thing wrong from `at` on, where `due` is
--- due, is the first from `end` on, where `next` is due; so the tokens between have no fault.
+-- due, is the first from `end` on, where `next` is due. So the tokens between have no fault, as theirs would name a place before
+-- `end`.
 pub record PassesTokens (text : List ℕ) (due : Due) (at : ℕ) (ns : List ℕ) (next : Due) (end : ℕ) : Type 0 where
   pub within : end ≤ length text
   pub after : at < end

@@ -14,8 +14,8 @@ use Rattle.cbpf_syntax.specs.Views.{row_of}
 abbrev pub common : List Class → List Lexeme → ℕ
 common cs ts = common_prefix_len (λ c (t : Lexeme). fits c t.symbol) cs ts
 
--- The token at an index is a comma. Of two forms of a mnemonic that fit the same tokens, the longer one goes on with a
--- comma where the other ends, so that a form which is filled whole is the best where none follows.
+-- The token at an index is a comma. Where tokens fill a form of a mnemonic whole, a longer form that they fit as far goes on
+-- with a comma. So a form that is filled whole is the best where no comma follows.
 abbrev pub is_comma_at : List Lexeme → ℕ → Bool
 is_comma_at [] i = false
 is_comma_at (t ∷ ts) zero = fits (the_mark 44) t.symbol

@@ -12,8 +12,8 @@ pub record Reading : Type 0 where
   pub at : ℕ
 
 -- What comes after a place `at` of a text is one of the next three. They speak of the tokens that the text has up to there:
--- none up to 0, and one more up to each place to which a call leads. No tokens go up to a place inside a piece, and there
--- they say nothing.
+-- none up to 0, and one more up to each place to which a call of `Lexer::next_token` leads that gives a token. No tokens go
+-- up to a place inside a piece, and there they say nothing.
 
 -- whatever tokens the text has up to `at`, up to `to` it has these and this one
 pub record IsNextToken (text : List ℕ) (at to : ℕ) (token : Token) : Type 0 where
