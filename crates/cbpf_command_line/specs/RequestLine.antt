@@ -79,7 +79,8 @@ details_in rows = filter (λ d. is_set (flag_of d) rows) (Listing ∷ Graph ∷ 
 abbrev pub conflict_in : List Row → Kinds
 conflict_in rows = if nat_lt 1 (length (details_in rows)) then ArgumentConflict ∷ [] else []
 
--- the fault of a word that is refused for its argument
+-- the kind of the fault of a word that gives no value, or names no packets, where `why` wants one; Requests.antt of
+-- `cbpf_tool` says which words these are
 abbrev pub word_faults : Kinds
 word_faults = ValueValidation ∷ []
 

@@ -25,7 +25,7 @@ abbrev pub known_source : FileMap → ℕ → FileSource
 known_source files failures =
     record { held = record { by_name = files; counts_exactly = true }; failures = failures; is_known = true }
 
--- one that counts exactly, of which it is not known what it holds
+-- one that counts exactly, of which it is not known what it holds, as a file system is
 abbrev pub unknown_source : ℕ → FileSource
 unknown_source failures =
     record { held = record { by_name = map.empty; counts_exactly = true }; failures = failures; is_known = false }

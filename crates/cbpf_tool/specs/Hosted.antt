@@ -25,7 +25,7 @@ pub record Hosted : Type 0 where
   pub has_output : Bool
   pub events : List Event
 
--- a host of which it is not known what it holds
+-- a host of which it is not known what it holds, as that of the program itself
 abbrev pub unknown : Hosted
 unknown = record { is_known = false; files = map.empty; input = []; has_output = false; events = [] }
 

@@ -1,4 +1,4 @@
--- The one output of a script, where no growth is refused and no file fails.
+-- The one output of a script in which each line has its own reply, and none has `error: out of memory` or F2 in its place.
 use Rattle.std.specs.Prelude.{◌≡◌, ℕ, List, [], ◌∷◌, ◌++◌, Some, Ok}
 use Rattle.cbpf_tool.specs.Commands.{command_of}
 use Rattle.cbpf_tool.specs.declared.command.Command.TheVariants.{Quit}

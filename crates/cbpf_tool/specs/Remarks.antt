@@ -15,7 +15,6 @@ use Rattle.cbpf_why.specs.declared.report.Report.{Report}
 use Rattle.cbpf_why.specs.declared.report.Report.TheVariants.{Summary, Ways, Packets, Coverage, Graph}
 use Rattle.cbpf_tool.specs.declared.remarks.Remarks.{Remarks}
 
--- a summary of all packets says itself how the capture ends
 abbrev pub is_summary : Report → Bool
 is_summary Summary = true
 is_summary Ways = false
@@ -23,6 +22,7 @@ is_summary Packets = false
 is_summary Coverage = false
 is_summary Graph = false
 
+-- the ending, where the report doesn't say it: the summary for which no range is given says where the capture is cut
 abbrev pub unsaid_ending : Report → List PacketRange → Ending → Option Ending
 unsaid_ending report ranges ending = if is_summary report && (length ranges == 0) then None else Some ending
 

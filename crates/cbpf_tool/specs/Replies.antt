@@ -79,7 +79,7 @@ abbrev pub CanBeUnread : Result (Option Command) CommandFault → Type 0
 CanBeUnread (Ok (Some (LoadCapture name))) = Unit {0}
 CanBeUnread _ = ⊥
 
--- a failure was counted, or the count stays at its greatest value; one failure, where they are counted exactly
+-- a failure was counted, or the count was at its greatest value before; one failure, where they are counted exactly
 abbrev pub CountsFailure : Held → ℕ → ℕ → Type 0
 CountsFailure files f g = (f ≤ g) × ((f < g) ⊎ (f ≡ 2 ^ 64 - 1))
     × (IsTrue files.counts_exactly → g ≡ with_failure f)

@@ -34,7 +34,7 @@ split_once sign word = option_map (λ i. (take i word, drop (i + 1) word)) (posi
 abbrev pub positive : ℕ → Option ℕ
 positive n = if n == 0 then None else Some n
 
--- a number from 1 on
+-- a number of 64 bits, from 1 on
 abbrev pub number_of_packet : List ℕ → Option ℕ
 number_of_packet word = option_and_then positive (number_up_to (2 ^ 64 - 1) word)
 
@@ -53,7 +53,7 @@ packet_range word = range_by (split_once 45 word) word
 
 -- ---- values
 
--- an extension and a number, with `=` between
+-- an extension and a number of 32 bits, with `=` between
 abbrev pub extension_value : List ℕ → Option (Ext × ℕ)
 extension_value word =
     option_and_then (λ ends. by_both (λ e n. (e, n)) (ext_named ends.0) (number_up_to (2 ^ 32 - 1) ends.1))

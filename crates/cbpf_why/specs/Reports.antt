@@ -36,7 +36,8 @@ packet_text Graph m r = []
 abbrev pub cut_line : CaptureEnd → List ℕ
 cut_line e = cut_text e.count e.ending
 
--- what is written of all packets, after the last one; the summary also says where the capture is cut, if it is
+-- what is written of all packets, after the last one; the summary also says where the capture is cut, if `end` is given
+-- and says so
 abbrev pub closing_text : Report → Machine → List Record → Option CaptureEnd → List ℕ
 closing_text Summary m records end =
     groups_text m.list (ends_of m records)
@@ -57,7 +58,7 @@ end_after count ending = record { count = count; ending = ending }
 abbrev pub capture_end : Savefile → CaptureEnd
 capture_end c = end_after (length c.records) c.ending
 
--- how the capture ends, where all packets are looked at; the summary alone writes it, and only of a cut capture
+-- how the capture ends, where no range is given; the summary alone writes it, and only of a cut capture
 abbrev pub shown_end : List PacketRange → Option CaptureEnd → Option CaptureEnd
 shown_end [] end = end
 shown_end (range ∷ ranges) end = None
@@ -72,7 +73,7 @@ report_text report ranges m c =
 abbrev pub ends_beyond : ℕ → PacketRange → Bool
 ends_beyond count range = nat_lt count range.last
 
--- a capture of so many packets is read to its end where all packets are looked at, or a range ends beyond
+-- a capture of so many packets is read to its end where no range is given, or a range ends beyond
 abbrev pub goes_to_end : List PacketRange → ℕ → Bool
 goes_to_end ranges count = (length ranges == 0) || list_any (ends_beyond count) ranges
 
