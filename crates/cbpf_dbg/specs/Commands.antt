@@ -168,8 +168,8 @@ resume m place =
     where_loaded m (λ machine capture. if length capture == 0 then Err fault.NoPackets
     else (if has_packet capture place.packet then resume_in m machine capture place else Err fault.NoPacket))
 
--- a place that `resume` takes wherever this program, these values and this capture are loaded, but for a capture
--- that has no packets
+-- A place that `resume` takes wherever this program, these values and this capture are loaded, as it does each place that
+-- `mark` answers. Of a capture that has no packets `mark` answers the start, which `resume` refuses.
 abbrev pub IsResumable : View → Place → Type 0
 IsResumable m place = (n : View) → n.program ≡ m.program → n.values ≡ m.values → n.capture ≡ m.capture
     → IsOk (resume n place) ⊎ (resume n place ≡ Err fault.NoPackets)
@@ -212,8 +212,8 @@ abbrev pub last_place : Place → List Stop → Place
 last_place place [] = place
 last_place place (stop ∷ rest) = last_place stop.place rest
 
--- Where memory runs out, a whole run has found the first of the stops that were ahead. The others are still ahead, and
--- only the place differs: it is that of the last one that was found.
+-- Where memory runs out, a whole run has found some of the stops that were ahead, the first ones in order, or none. The
+-- others are still ahead, and only the place differs: it is that of the last one that was found, if one was.
 pub record Found (old new : View) (old_found new_found : List Stop) : Type 0 where
   pub first : List Stop
   pub after : List Stop
@@ -280,7 +280,8 @@ abbrev pub turns_forward : View → Answer RunReply → ℕ
 turns_forward m answer =
     result_unwrap_or (where_loaded m (λ machine capture. result_map_both (turns_in m machine capture) (λ e. e) answer)) 0
 
--- how many turns lead to the end; 0 where no program or no capture is loaded
+-- how many turns a whole run makes: one for each entry at the place or after it; 0 where no program or no capture is
+-- loaded
 abbrev pub turns_left : View → ℕ
 turns_left m = result_unwrap_or (where_loaded m (λ machine capture. Ok (turns_to_end machine capture m.place))) 0
 

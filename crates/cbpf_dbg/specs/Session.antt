@@ -26,13 +26,13 @@ Keeps stands_for machine capture place =
     (r : Record) → slice_get capture (place.packet - 1) ≡ Some r
     → stands_for (take place.step (trace machine r.bytes r.wire))
 
--- of some entries, the k-th, counted from 1, and what stands for those up to it
+-- the state is the k-th of some entries, counted from 1, and what is kept stands for the entries up to it
 pub record KeepsTo (stands_for : List Registers → Type 0) (xs : List Registers) (k : ℕ) (s : Registers) : Type 0 where
   pub from_one : 1 ≤ k
   pub entry : entry_at xs k ≡ Some s
   pub stands : stands_for (take k xs)
 
--- no place is after the last packet, where there is one
+-- the place isn't after the last packet, where there is one
 abbrev pub IsInside : List Record → Place → Type 0
 IsInside capture place = 0 < length capture → place.packet ≤ length capture
 

@@ -24,8 +24,8 @@ packets_text count how = with_number (codes "pcap: ") count (codes " packets") +
 abbrev pub capture_text : Savefile → List ℕ
 capture_text c = packets_text (length c.records) c.ending
 
--- the same line where the capture is cut, and nothing where it isn't: a summary of `cbpf why`, which shows no reply to a
--- load, ends with it
+-- the same line where the capture is cut, and nothing where it isn't: a summary of all packets by `cbpf why` ends with
+-- it, and after other reports it goes to standard error
 abbrev pub cut_text : ℕ → Ending → List ℕ
 cut_text count Whole = []
 cut_text count (CutHeader place) = packets_text count (CutHeader place)
