@@ -17,7 +17,7 @@ use Rattle.cbpf_code.specs.declared.words.WordFault.TheVariants.{Memory, CountDi
 use Rattle.cbpf_code.specs.Opcode.{op_of}
 use Rattle.cbpf_code.specs.Faults.{NamesNoSlot, HasFault, FirstFault, rank, index_of, uses_slot, shifts_by_k}
 use Rattle.cbpf_code.specs.Faults.{DividesByZero, ShiftsTooFar, JumpsOutside, LoadsUnknownExtension, IsEarlier, divides_by_k}
-use Rattle.cbpf_code.specs.CheckSteps.{PassesBefore, IsAllowed, AllowedAt}
+use Rattle.cbpf_code.specs.CheckSteps.{IsAllowed}
 use Rattle.cbpf_code.specs.WordTokens.{tokens}
 use Rattle.cbpf_code.specs.WordText.{count, fault_of}
 use Rattle.cbpf_code.specs.WordText.{count_of, list_of, Spells, Refused}
@@ -26,7 +26,7 @@ use Rattle.cbpf_code.proofs.WordAnswerLemmas.{as-refused, first_word_fault-other
 use Rattle.cbpf_code.proofs.Decided.{Decided, is_true, at_most, both, is_none}
 use Rattle.cbpf_code.proofs.PathLemmas.{formed-checked}
 use Rattle.cbpf_code.proofs.SoundLemmas.{known_or}
-use Rattle.cbpf_code.proofs.FaultLemmas.{first_fault-insn, first_fault-at_end}
+use Rattle.cbpf_code.proofs.FaultLemmas.{PassesBefore, AllowedAt, first_fault-insn, first_fault-at_end}
 use Rattle.cbpf_code.proofs.FaultLemmas.{passes_before-start, passes_before-next, well_formed-at_end}
 
 jumps_outside : (op : Op) (insn : Insn) (i n : ℕ) → Decided (JumpsOutside op insn i n)

@@ -15,15 +15,23 @@ use Rattle.cbpf_code.specs.declared.checker.CheckFault.TheVariants.{ZeroDivisor,
 use Rattle.cbpf_code.specs.declared.checker.CheckFault.TheVariants.{UnknownExtension, NoReturn, UnwrittenSlot}
 use Rattle.cbpf_code.specs.Opcode.{op_of}
 use Rattle.cbpf_code.specs.ControlFlow.{InsnAt, IsTarget}
-use Rattle.cbpf_code.specs.Faults.{IsReturn, HasFault, FirstFault, rank, index_of, uses_slot}
+use Rattle.cbpf_code.specs.Faults.{IsReturn, HasFault, FirstFault, IsEarlier, rank, index_of, uses_slot}
 use Rattle.cbpf_code.specs.Faults.{divides_by_k, shifts_by_k, loads_absolute}
-use Rattle.cbpf_code.specs.CheckSteps.{PassesBefore, IsWellFormed, InsnHasFault, IsAllowed, AllowedAt}
+use Rattle.cbpf_code.specs.CheckSteps.{IsWellFormed, InsnHasFault, IsAllowed}
 
 pub insn_at-same : (list : List Insn) (i : ℕ) (Has : Op → Insn → Type 0) (insn : Insn) (op : Op) → InsnAt list i Has
     → slice_get list i ≡ Some insn → op_of insn.code ≡ Some op → Has op insn
 insn_at-same list i Has insn op a here known = grind arith
 
 -- ---- instruction by instruction
+
+-- the instruction at i has a known code, and no fault of its own
+abbrev pub AllowedAt : List Insn → ℕ → Type 0
+AllowedAt list i = InsnAt list i (λ op insn. IsAllowed op insn i (length list))
+
+-- no fault comes before that of an unknown code at m
+pub record PassesBefore (list : List Insn) (m : ℕ) : Type 0 where
+  pub none : (e : CheckFault) → IsEarlier e (UnknownCode m) → HasFault list e → ⊥
 
 allowed-excludes : (list : List Insn) (e : CheckFault) (insn : Insn) (op : Op) → slice_get list (index_of e) ≡ Some insn
     → op_of insn.code ≡ Some op → IsAllowed op insn (index_of e) (length list) → rank e ≡ 2 → HasFault list e → ⊥

@@ -6,12 +6,12 @@ use Rattle.std.proofs.lemmas.List.{take_all}
 use Rattle.std.proofs.lemmas.Option.{slice_get-get_or}
 use Rattle.std.proofs.lemmas.List.FromFn.{get_or-enumerate_from, length-enumerate_from}
 use Rattle.cbpf_code.specs.declared.insn.Insn.{Insn}
-use Rattle.cbpf_code.specs.Listing.{line_text, listing, numbered_line, whole_line}
+use Rattle.cbpf_code.specs.Listing.{line_text, listing, numbered_line}
 use Rattle.cbpf_code.proofs.FaultLemmas.{zero_insn}
 use Rattle.cbpf_code.proofs.WrittenLemmas.{flat-more}
 
 pub line_at : (list : List Insn) (i : ℕ) (d : Insn) → i < length list
-    → whole_line list i ≡ numbered_line (get_or (enumerate_from 0 list) i (0, d))
+    → line_text list i ++ codes "\n" ≡ numbered_line (get_or (enumerate_from 0 list) i (0, d))
 line_at list i d l = grind (arith, slice_get-get_or, get_or-enumerate_from)
 
 -- the first lines, one more of them, and all

@@ -5,10 +5,14 @@ use Rattle.cbpf_code.specs.WordTokens.{tokens, tokens_from}
 use Rattle.cbpf_code.specs.WordText.{Due, count, count_comma, code, comma, end_fault, first_word_fault, numbers}
 use Rattle.cbpf_code.specs.WordText.{in_fours, list_of, Spells, Refused}
 use Rattle.cbpf_code.proofs.WordAnswerLemmas.{as-refused}
-use Rattle.cbpf_code.specs.WordSteps.{fault_from, PassesTokens, IsFaultAt, IsRead, IsReadWhole, fields_of}
+use Rattle.cbpf_code.specs.WordSteps.{fault_from, PassesTokens, IsFaultAt, IsReadWhole, fields_of}
 use Rattle.cbpf_code.specs.declared.insn.Insn.{Insn}
 use Rattle.cbpf_code.specs.declared.words.WordFault.TheVariants.{NumberExpected, CountDiffers, CommaExpected}
 use Rattle.cbpf_code.specs.declared.words.WordFault.{WordFault}
+
+-- the text was read up to `at`: its count, and a list with a comma after each instruction
+abbrev pub IsRead : List ℕ → ℕ → List Insn → ℕ → Type 0
+IsRead text n list at = PassesTokens text count 0 (n ∷ fields_of list) code at
 
 pub passes-then : {text : List ℕ} {a b c : Due} {at mid end : ℕ} {ns ms : List ℕ} → PassesTokens text a at ns b mid
     → PassesTokens text b mid ms c end → PassesTokens text a at (ns ++ ms) c end

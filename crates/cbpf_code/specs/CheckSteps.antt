@@ -4,11 +4,10 @@ use Rattle.std.specs.Prelude.{ℕ, ◌<◌, ◌≤◌, List, length}
 use Rattle.cbpf_code.specs.declared.insn.Insn.{Insn}
 use Rattle.cbpf_code.specs.declared.opcode.Op.{Op}
 use Rattle.cbpf_code.specs.declared.checker.CheckFault.{CheckFault}
-use Rattle.cbpf_code.specs.declared.checker.CheckFault.TheVariants.{UnknownCode, NoSlot, ZeroDivisor, WideShift}
+use Rattle.cbpf_code.specs.declared.checker.CheckFault.TheVariants.{NoSlot, ZeroDivisor, WideShift}
 use Rattle.cbpf_code.specs.declared.checker.CheckFault.TheVariants.{JumpOutside, UnknownExtension}
 use Rattle.cbpf_code.specs.declared.checker.TheConstants.{MAX_INSTRUCTIONS}
-use Rattle.cbpf_code.specs.ControlFlow.{InsnAt}
-use Rattle.cbpf_code.specs.Faults.{HasFault, IsEarlier, rank, NamesNoSlot, DividesByZero, ShiftsTooFar, JumpsOutside}
+use Rattle.cbpf_code.specs.Faults.{HasFault, rank, NamesNoSlot, DividesByZero, ShiftsTooFar, JumpsOutside}
 use Rattle.cbpf_code.specs.Faults.{LoadsUnknownExtension}
 
 -- an instruction of a known code, at i of n, has a fault of this kind by itself, whatever index the fault names
@@ -23,14 +22,6 @@ InsnHasFault op insn i n _ = ⊥
 -- it has none
 abbrev pub IsAllowed : Op → Insn → ℕ → ℕ → Type 0
 IsAllowed op insn i n = (e : CheckFault) → InsnHasFault op insn i n e → ⊥
-
--- the instruction at i has a known code, and no fault of its own
-abbrev pub AllowedAt : List Insn → ℕ → Type 0
-AllowedAt list i = InsnAt list i (λ op insn. IsAllowed op insn i (length list))
-
--- no fault comes before that of an unknown code at m
-pub record PassesBefore (list : List Insn) (m : ℕ) : Type 0 where
-  pub none : (e : CheckFault) → IsEarlier e (UnknownCode m) → HasFault list e → ⊥
 
 -- no fault but C10, which has rank 4, is there, so that each path ends at a return
 pub record IsWellFormed (list : List Insn) : Type 0 where

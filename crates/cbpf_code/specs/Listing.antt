@@ -72,10 +72,6 @@ text_where i (Some insn) = insn_text i insn
 abbrev pub line_text : List Insn → ℕ → List ℕ
 line_text list i = text_where i (slice_get list i)
 
--- line i with its newline
-abbrev pub whole_line : List Insn → ℕ → List ℕ
-whole_line list i = line_text list i ++ codes "\n"
-
 -- the line of an instruction that stands beside its index, with its newline
 abbrev pub numbered_line : ℕ × Insn → List ℕ
 numbered_line e = insn_text e.0 e.1 ++ codes "\n"

@@ -1,7 +1,7 @@
 -- What the reader's steps take from the tokens of a text. No public clause names it.
 use Rattle.std.specs.Prelude.{◌≡◌, ℕ, ◌<◌, ◌≤◌, ◌⊎◌, List, [], ◌∷◌, ◌++◌, length, Option, Some, None}
 use Rattle.cbpf_code.specs.WordTokens.{tokens, tokens_from}
-use Rattle.cbpf_code.specs.WordText.{Due, count, code, first_word_fault, fault_of, numbers}
+use Rattle.cbpf_code.specs.WordText.{Due, first_word_fault, fault_of, numbers}
 use Rattle.cbpf_code.specs.declared.insn.Insn.{Insn}
 use Rattle.cbpf_code.specs.declared.words.WordFault.{WordFault}
 
@@ -27,10 +27,6 @@ IsFaultAt text due at e at_end = (fault_from text due at ≡ Some e) ⊎ ((token
 abbrev pub fields_of : List Insn → List ℕ
 fields_of [] = []
 fields_of (i ∷ is) = i.code ∷ i.jt ∷ i.jf ∷ i.k ∷ fields_of is
-
--- the text was read up to `at`: its count, and a list with a comma after each instruction
-abbrev pub IsRead : List ℕ → ℕ → List Insn → ℕ → Type 0
-IsRead text n list at = PassesTokens text count 0 (n ∷ fields_of list) code at
 
 -- the whole text was read
 pub record IsReadWhole (text : List ℕ) (n : ℕ) (list : List Insn) : Type 0 where

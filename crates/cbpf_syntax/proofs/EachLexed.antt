@@ -7,11 +7,11 @@ use Rattle.cbpf_syntax.specs.declared.piece.PieceKind.TheVariants.{Bad}
 use Rattle.cbpf_syntax.specs.declared.piece.Piece.{Piece}
 use Rattle.cbpf_syntax.specs.declared.token.BadPiece.{BadPiece}
 use Rattle.cbpf_syntax.specs.declared.token.Token.{Token}
-use Rattle.cbpf_syntax.specs.Pieces.{IsPieceAt, is_line_blank, led_piece}
+use Rattle.cbpf_syntax.specs.Pieces.{IsPieceAt, is_line_blank}
 use Rattle.cbpf_syntax.specs.Leads.{lead_of}
 use Rattle.cbpf_syntax.specs.Tokens.{LexesTo, Lexes, IsFirstBad, token_of, line_of, is_good}
 use Rattle.cbpf_syntax.specs.CutLaws.{EachLexed}
-use Rattle.cbpf_syntax.proofs.Runs.{led_next}
+use Rattle.cbpf_syntax.proofs.Runs.{led_piece, led_next}
 use Rattle.cbpf_syntax.proofs.Cuts.{piece_at, piece_within, piece_some, LexesTo-more}
 
 -- what a text has

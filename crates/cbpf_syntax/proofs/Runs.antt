@@ -5,13 +5,14 @@ use Rattle.std.proofs.Common.{Option, eqb-true, inl, inr}
 use Rattle.std.proofs.Math.Numerals.{one-add}
 use Rattle.std.specs.Prelude.{◌==◌, nat_le}
 use Rattle.std.specs.List.{list_all, prefix_len}
+use Rattle.cbpf_syntax.specs.declared.piece.Piece.{Piece}
 use Rattle.cbpf_syntax.specs.declared.piece.PieceKind.{PieceKind}
 use Rattle.cbpf_syntax.specs.declared.piece.PieceKind.TheVariants.{Blanks, Comment, TokenOf, Bad}
 use Rattle.cbpf_syntax.specs.declared.token.Kind.TheVariants.{Word, Mark}
 use Rattle.cbpf_code.specs.WordTokens.{is_blank}
 use Rattle.cbpf_syntax.specs.Bytes.{is_name_byte}
 use Rattle.cbpf_syntax.specs.Pieces.{IsNext, piece_kind, led_kind, slash_kind, only_if, numeral_kind, alone, has_close}
-use Rattle.cbpf_syntax.specs.Pieces.{close_after, comment_piece, slash_piece, led_piece}
+use Rattle.cbpf_syntax.specs.Pieces.{close_after, comment_piece, slash_piece}
 use Rattle.cbpf_syntax.specs.Leads.{lead_of}
 use Rattle.cbpf_syntax.proofs.Comments.{close_taken, close_within}
 use Rattle.cbpf_syntax.specs.declared.token.BadPiece.TheVariants.{NoToken, OpenComment}
@@ -135,6 +136,19 @@ module _ (fresh : Bool) (b : ℕ) (e : lead_of fresh b ≡ Slash) where
           none : (n : ℕ) → 0 < n → n ≤ suc (length cs) → slash_kind (take n (c ∷ cs)) ≡ None
           none zero l w = absurd (omega arith)
           none (suc n) l w = rw h refl
+
+-- the next piece, by what the first byte says
+abbrev pub led_piece : Lead → ℕ → List ℕ → Piece
+led_piece Blank b bs = record { kind = Blanks; size = 1 + prefix_len is_blank bs }
+led_piece LineComment b bs = record { kind = Comment; size = 1 + prefix_len (λ c. not (c == 10)) bs }
+led_piece Letter b bs = record { kind = TokenOf Word; size = 1 + prefix_len is_name_byte bs }
+led_piece Digit b bs = record {
+  kind = numeral_kind (b ∷ take (prefix_len is_name_byte bs) bs);
+  size = 1 + prefix_len is_name_byte bs;
+}
+led_piece Slash b bs = slash_piece bs
+led_piece Single b bs = record { kind = TokenOf (Mark b); size = 1 }
+led_piece Other b bs = record { kind = Bad NoToken; size = 1 }
 
 -- what the first byte says finds the next piece
 pub led_next : (fresh : Bool) (b : ℕ) (bs : List ℕ) (lead : Lead) → lead_of fresh b ≡ lead

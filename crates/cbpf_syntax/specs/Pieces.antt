@@ -3,7 +3,7 @@
 -- project's own.
 use Rattle.std.specs.Prelude.{◌≡◌, ℕ, suc, ◌+◌, ◌-◌, ◌<◌, ◌≤◌, Bool, true, false, not, ◌&&◌, ◌||◌, List, [], ◌∷◌}
 use Rattle.std.specs.Prelude.{length, take, drop, nat_lt, ◌==◌, if◌then◌else◌, fold, Option, Some, None, option_map}
-use Rattle.std.specs.List.{list_all, prefix_len}
+use Rattle.std.specs.List.{list_all}
 use Rattle.cbpf_syntax.specs.declared.token.Kind.TheVariants.{Word, Number, Mark}
 use Rattle.cbpf_syntax.specs.declared.token.BadPiece.TheVariants.{NoToken, OpenComment, LargeNumber}
 use Rattle.cbpf_syntax.specs.declared.piece.PieceKind.{PieceKind}
@@ -108,15 +108,3 @@ abbrev pub slash_piece : List ℕ → Piece
 slash_piece [] = record { kind = Bad NoToken; size = 1 }
 slash_piece (b ∷ bs) =
     if b == 42 then comment_piece (close_after false bs) (length bs) else record { kind = Bad NoToken; size = 1 }
-
-abbrev pub led_piece : Lead → ℕ → List ℕ → Piece
-led_piece Blank b bs = record { kind = Blanks; size = 1 + prefix_len is_blank bs }
-led_piece LineComment b bs = record { kind = Comment; size = 1 + prefix_len (λ c. not (c == 10)) bs }
-led_piece Letter b bs = record { kind = TokenOf Word; size = 1 + prefix_len is_name_byte bs }
-led_piece Digit b bs = record {
-  kind = numeral_kind (b ∷ take (prefix_len is_name_byte bs) bs);
-  size = 1 + prefix_len is_name_byte bs;
-}
-led_piece Slash b bs = slash_piece bs
-led_piece Single b bs = record { kind = TokenOf (Mark b); size = 1 }
-led_piece Other b bs = record { kind = Bad NoToken; size = 1 }

@@ -1,6 +1,6 @@
 use Rattle.std.proofs.Common.{take}
 use Rattle.std.specs.List.{All}
-use Rattle.cbpf_code.specs.CheckSteps.{PassesBefore}
+use Rattle.cbpf_code.proofs.FaultLemmas.{PassesBefore}
 use Rattle.cbpf_code.specs.WordForm.{InRange}
 use Rattle.cbpf_code.proofs.checker.first_fault.Given as goal
 

@@ -1,5 +1,5 @@
 use Rattle.std.proofs.Common.{◌-◌, length}
-use Rattle.cbpf_code.specs.WordSteps.{IsRead}
+use Rattle.cbpf_code.proofs.WordStepLemmas.{IsRead}
 use Rattle.cbpf_code.proofs.words.read_list.Given as goal
 
 abbrev pub invariant-loop-list : goal.invariant-loop-list
