@@ -28,9 +28,6 @@ abbrev pub place_or_name : Option Ext → ℕ → List ℕ
 place_or_name None k = with_number (codes " [") k (codes "]")
 place_or_name (Some e) k = concat (codes " " ∷ ext_name e ∷ [])
 
-abbrev pub absolute_operand : ℕ → List ℕ
-absolute_operand k = place_or_name (ext_at k) k
-
 -- the targets of the conditional jump at an index: where it holds, and where it doesn't
 abbrev pub targets : ℕ → Insn → List ℕ
 targets i insn = concat (codes ", l" ∷ decimal (i + 1 + insn.jt) ∷ codes ", l" ∷ decimal (i + 1 + insn.jf) ∷ [])
@@ -42,7 +39,7 @@ operand_text X i insn = codes " x"
 operand_text A i insn = codes " a"
 operand_text Length i insn = codes " len"
 operand_text Immediate i insn = immediate_operand insn.k
-operand_text Absolute i insn = absolute_operand insn.k
+operand_text Absolute i insn = place_or_name (ext_at insn.k) insn.k
 operand_text Indexed i insn = with_number (codes " [x + ") insn.k (codes "]")
 operand_text Memory i insn = with_number (codes " M[") insn.k (codes "]")
 operand_text Header i insn = with_number (codes " 4*([") insn.k (codes "]&0xf)")
