@@ -14,7 +14,7 @@ pub returns : goal.returns
 returns g c =
     let t = in_task c.args.task.now in
     let reached = rw c.in-Some.is at
-    (c.make_turns-turns.ensures.reaches 0 (rw c.zero-core.ensures (start_goes _ c.len-few.ensures.sound))) in
+    (c.make_turns-turns.ensures.reaches zero_state 0 (rw c.zero-core.ensures (start_goes _ c.len-few.ensures.sound))) in
     let end = ends_packet reached.arrives.0 c.in-Some.reason reached.arrives.1 in
     record {
       last = c.of.ensures ∙ end.1;

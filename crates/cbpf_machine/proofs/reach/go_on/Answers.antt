@@ -1,6 +1,6 @@
 use Rattle.std.proofs.Common.{refl, ℕ, ◌≤◌, arith, false}
 use Rattle.cbpf_machine.specs.Core.{registers}
-use Rattle.cbpf_machine.specs.Registers.{Registers}
+use Rattle.cbpf_machine.specs.Registers.{Registers, zero_state}
 use Rattle.cbpf_machine.specs.OnPacket.{IsOnTrace, in_task}
 use Rattle.cbpf_machine.specs.Together.{Reaches}
 use Rattle.cbpf_machine.proofs.TraceLemmas.{ended_last}
@@ -11,10 +11,10 @@ use Rattle.cbpf_machine.proofs.reach.go_on.Goals as goal
 
 reached : (g : Over) (c : After-make_turns-turns g) (i : ℕ)
     → IsOnTrace (in_task c.args.task.now) i (registers c.args.s.now c.args.slots.now)
-    → Reaches (in_task c.args.task.now) (λ (r : Registers). false) i
+    → Reaches (in_task c.args.task.now) zero_state (λ (r : Registers). false) i
     (registers c.make_turns-turns.new.s c.make_turns-turns.new.slots) c.make_turns-turns.result.0 c.make_turns-turns.result.1
     × (c.make_turns-turns.result.0 ≤ c.args.most)
-reached g c i on = reaches_fenced c.args.most (c.make_turns-turns.ensures.reaches i on) on
+reached g c i on = reaches_fenced c.args.most (c.make_turns-turns.ensures.reaches zero_state i on) on
     (c.make_turns-turns.ensures.some refl) c.requires.some (omega arith)
 
 pub add-requires : goal.add-requires

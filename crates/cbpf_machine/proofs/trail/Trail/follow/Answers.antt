@@ -2,6 +2,7 @@ use Rattle.std.proofs.Common.{◌≡◌, ◌≤◌, ◌+◌, ◌∙◌, ◌-◌,
 use Rattle.std.specs.Prelude.{None}
 use Rattle.cbpf_code.specs.declared.checker.TheConstants.{MAX_INSTRUCTIONS}
 use Rattle.cbpf_machine.specs.Core.{registers}
+use Rattle.cbpf_machine.specs.Registers.{zero_state}
 use Rattle.cbpf_machine.specs.Follow.{is_watched}
 use Rattle.cbpf_machine.specs.OnPacket.{in_task, trace_in}
 use Rattle.cbpf_machine.specs.Task.{outcome_in}
@@ -36,10 +37,10 @@ overflow_add-fence g c = omega (
 )
 
 reached : (g : Over) (c : After-make_turns-turns g)
-    → Reaches (in_task c.args.task.now) (is_watched c.args.watched.now)
+    → Reaches (in_task c.args.task.now) zero_state (is_watched c.args.watched.now)
     (g.Self.Trail.kept c.follow.self - 1) (registers c.make_turns-turns.new.s c.make_turns-turns.new.slots) c.make_turns-turns.result.0
     c.make_turns-turns.result.1 × (c.make_turns-turns.result.0 ≤ c.gap.result)
-reached g c = reaches_fenced c.gap.result (c.make_turns-turns.ensures.reaches _ c.follow.invariant.here)
+reached g c = reaches_fenced c.gap.result (c.make_turns-turns.ensures.reaches zero_state _ c.follow.invariant.here)
     c.follow.invariant.here (c.make_turns-turns.ensures.some refl) c.gap.ensures.some (omega arith)
 
 within : (g : Over) (c : After-make_turns-turns g)
