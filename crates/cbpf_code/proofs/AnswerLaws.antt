@@ -31,14 +31,17 @@ use Rattle.cbpf_code.proofs.FaultLemmas.{passes_before-start, passes_before-next
 
 jumps_outside : (op : Op) (insn : Insn) (i n : ℕ) → Decided (JumpsOutside op insn i n)
 jumps_outside Ja insn i n = elim (at_most n (i + 1 + insn.k)) [
-  | inl far ↦ inl (_, refl, far)
-  | inr near ↦ inr (λ h. omega (arith, h.1, h.2))
+  | inl far ↦ inl (_, inl refl, far)
+  | inr near ↦ inr (λ h. elim h.1 [ inl e ↦ omega (arith, e, h.2) | inr n ↦ n ])
 ]
 jumps_outside (Jump cond src) insn i n = elim (at_most n (i + 1 + insn.jt)) [
   | inl far ↦ inl (_, inl refl, far)
   | inr near ↦ elim (at_most n (i + 1 + insn.jf)) [
-    | inl far ↦ inl (_, inr refl, far)
-    | inr short ↦ inr (λ h. elim h.1 [ inl e ↦ omega (arith, e, h.2) | inr e ↦ omega (arith, e, h.2) ])
+    | inl far ↦ inl (_, inr (inl refl), far)
+    | inr short ↦ inr (λ h. elim h.1 [
+      | inl e ↦ omega (arith, e, h.2)
+      | inr o ↦ elim o [ inl e ↦ omega (arith, e, h.2) | inr n ↦ n ]
+    ])
   ]
 ]
 jumps_outside _ insn i n = inr (λ h. h.1)

@@ -14,7 +14,7 @@ use Rattle.cbpf_code.specs.declared.checker.CheckFault.TheVariants.{NoInstructio
 use Rattle.cbpf_code.specs.declared.checker.CheckFault.TheVariants.{ZeroDivisor, WideShift, JumpOutside}
 use Rattle.cbpf_code.specs.declared.checker.CheckFault.TheVariants.{UnknownExtension, NoReturn, UnwrittenSlot}
 use Rattle.cbpf_code.specs.Opcode.{op_of}
-use Rattle.cbpf_code.specs.ControlFlow.{InsnAt, IsTarget}
+use Rattle.cbpf_code.specs.ControlFlow.{InsnAt, jump_targets, IsAmong}
 use Rattle.cbpf_code.specs.Faults.{IsReturn, HasFault, FirstFault, IsEarlier, rank, index_of, uses_slot}
 use Rattle.cbpf_code.specs.Faults.{divides_by_k, shifts_by_k, loads_absolute}
 use Rattle.cbpf_code.specs.CheckSteps.{IsWellFormed, InsnHasFault, IsAllowed}
@@ -138,7 +138,7 @@ for_shift (Alu Lsh K) i h = cc
 for_shift (Alu Rsh K) i h = cc
 for_shift _ i h = cc
 
-for_target : (op : Op) (insn : Insn) (i t : ℕ) → IsTarget op insn i t → fault_for op i ≡ JumpOutside i
+for_target : (op : Op) (insn : Insn) (i t : ℕ) → IsAmong (jump_targets op insn i) t → fault_for op i ≡ JumpOutside i
 for_target Ja insn i t h = refl
 for_target (Jump cond src) insn i t h = refl
 for_target _ insn i t h = absurd h

@@ -1,7 +1,7 @@
 -- Paths through a list of instructions, the masks that stand for them, and the faults that paths show.
-use Rattle.std.proofs.Common.{◌≡◌, ℕ, zero, suc, ◌+◌, ◌<◌, List, length, get_or, replicate}
+use Rattle.std.proofs.Common.{◌≡◌, ℕ, zero, suc, ◌+◌, ◌<◌, List, [], ◌∷◌, length, get_or, replicate}
 use Rattle.std.proofs.Common.{arith, refl, sym, subst, ◌∙◌, inl, inr}
-use Rattle.std.specs.Prelude.{◌⊎◌, Option, None, Some, IsTrue, slice_get, slice_set, slice_index}
+use Rattle.std.specs.Prelude.{◌⊎◌, Some, IsTrue, slice_get, slice_set, slice_index}
 use Rattle.std.proofs.lemmas.Bool.{cases_eq, cases_lt}
 use Rattle.std.proofs.lemmas.Option.{slice_get_within}
 use Rattle.std.proofs.lemmas.Nat.Bits.{bit_at-zero, bit_at_ones}
@@ -10,12 +10,12 @@ use Rattle.std.proofs.lemmas.Grind.{get_or-set_at}
 use Rattle.std.proofs.Math.ListN.{length-set, length-replicate, get_or-eq_default}
 use Rattle.cbpf_code.specs.declared.insn.Insn.{Insn}
 use Rattle.cbpf_code.specs.declared.opcode.Op.{Op}
-use Rattle.cbpf_code.specs.declared.opcode.Op.TheVariants.{LdMem, St, Ja, Jump, RetK, RetA}
+use Rattle.cbpf_code.specs.declared.opcode.Op.TheVariants.{LdMem, St}
 use Rattle.cbpf_code.specs.declared.checker.CheckFault.{CheckFault}
 use Rattle.cbpf_code.specs.declared.checker.CheckFault.TheVariants.{UnwrittenSlot}
 use Rattle.cbpf_code.specs.declared.checker.TheConstants.{MAX_INSTRUCTIONS, SLOTS}
 use Rattle.cbpf_code.specs.Opcode.{op_of}
-use Rattle.cbpf_code.specs.ControlFlow.{CanFollow, CanFollowCode, IsSuccessor, StoresSlot, MayBeUnwritten}
+use Rattle.cbpf_code.specs.ControlFlow.{next_places, IsAmong, IsSuccessor, StoresSlot, MayBeUnwritten}
 use Rattle.cbpf_code.specs.ControlFlow.{loads_slot, stores_slot}
 use Rattle.cbpf_code.specs.ControlFlow.MayBeUnwritten.{at_start, onward}
 use Rattle.cbpf_code.specs.Faults.{uses_slot, HasFault, FirstFault, rank, index_of}
@@ -26,7 +26,7 @@ use Rattle.cbpf_code.proofs.Decided.{Decided, is_true, both, either, not, least,
 use Rattle.cbpf_code.proofs.FaultLemmas.{insn_at-same}
 
 successor-same : (list : List Insn) (i t : ℕ) (insn : Insn) (op : Op) → IsSuccessor list i t
-    → slice_get list i ≡ Some insn → op_of insn.code ≡ Some op → CanFollow op insn i t
+    → slice_get list i ≡ Some insn → op_of insn.code ≡ Some op → IsAmong (next_places (Some op) insn i) t
 successor-same list i t insn op next here known = grind arith
 
 -- ---- paths
@@ -83,7 +83,8 @@ reached-further list s m t (inr r) = inr (r.0, omega arith, r.2, r.3, r.4)
 pub tracks_paths-next : (list : List Insn) (i : ℕ) (insn : Insn) (op : Op) (masks next_masks : List ℕ) (left : ℕ)
     → slice_get list i ≡ Some insn → op_of insn.code ≡ Some op → TracksPaths list i masks
     → LeavesUnwritten (slice_index masks i) op insn left
-    → AddsToMasks masks next_masks left (λ t. CanFollow op insn i t) → (IsTrue (loads_slot op) → insn.k < SLOTS)
+    → AddsToMasks masks next_masks left (λ t. IsAmong (next_places (Some op) insn i) t)
+    → (IsTrue (loads_slot op) → insn.k < SLOTS)
     → (IsTrue (loads_slot op) × InMaskOf masks i insn.k → ⊥) → TracksPaths list (i + 1) next_masks
 tracks_paths-next list i insn op masks next_masks left here known tracks leaves adds small_k fine = record {
   long = adds.long ∙ tracks.long;
@@ -160,16 +161,12 @@ sound_of list formed none = record { none = by }
 stores : (list : List Insn) (i s : ℕ) → Decided (StoresSlot list i s)
 stores list i s = insn_at list i _ (λ op insn. both (is_true (stores_slot op)) (cases_eq insn.k s))
 
-follows : (o : Option Op) (insn : Insn) (i t : ℕ) → Decided (CanFollowCode o insn i t)
-follows None insn i t = cases_eq t (i + 1)
-follows (Some RetK) insn i t = inr (λ h. h)
-follows (Some RetA) insn i t = inr (λ h. h)
-follows (Some Ja) insn i t = cases_eq t (i + 1 + insn.k)
-follows (Some (Jump cond src)) insn i t = either (cases_eq t (i + 1 + insn.jt)) (cases_eq t (i + 1 + insn.jf))
-follows (Some _) insn i t = cases_eq t (i + 1)
+among : (ts : List ℕ) (t : ℕ) → Decided (IsAmong ts t)
+among [] t = inr (λ h. h)
+among (p ∷ ps) t = either (cases_eq t p) (among ps t)
 
 successor : (list : List Insn) (i t : ℕ) → Decided (IsSuccessor list i t)
-successor list i t = found (slice_get list i) _ (λ insn. follows (op_of insn.code) insn i t)
+successor list i t = found (slice_get list i) _ (λ insn. among (next_places (op_of insn.code) insn i) t)
 
 -- instruction h passes slot s on to t unwritten
 abbrev PassesOn : List Insn → ℕ → ℕ → ℕ → Type 0

@@ -1,5 +1,5 @@
 -- Masks of slots: one mask, and the masks of all instructions.
-use Rattle.std.proofs.Common.{◌≡◌, ℕ, ◌+◌, ◌*◌, ◌%◌, ◌^◌, ◌<◌, List, length, arith, refl, sym, ◌∙◌, inl, inr}
+use Rattle.std.proofs.Common.{◌≡◌, ℕ, Some, ◌+◌, ◌*◌, ◌%◌, ◌^◌, ◌<◌, List, length, arith, refl, sym, ◌∙◌, inl, inr}
 use Rattle.std.specs.Prelude.{◌⊎◌, IsTrue, slice_set, slice_index, bit_and, bit_or}
 use Rattle.std.specs.Int.{bit_not, w16}
 use Rattle.std.proofs.lemmas.Bool.{cases_eq}
@@ -11,7 +11,7 @@ use Rattle.cbpf_code.specs.declared.insn.Insn.{Insn}
 use Rattle.cbpf_code.specs.declared.opcode.Op.{Op}
 use Rattle.cbpf_code.specs.declared.opcode.Op.TheVariants.{Ja, Jump, RetK, RetA}
 use Rattle.cbpf_code.specs.declared.checker.TheConstants.{SLOTS}
-use Rattle.cbpf_code.specs.ControlFlow.{CanFollow, stores_slot}
+use Rattle.cbpf_code.specs.ControlFlow.{next_places, IsAmong, stores_slot}
 use Rattle.cbpf_code.specs.SlotMasks.{InMask, LeavesUnwritten, AddsToMasks}
 
 -- ---- one mask
@@ -46,9 +46,9 @@ adds_to_masks-one masks at left inside =
 
 pub follows-next : (op : Op) (insn : Insn) (i : ℕ) → (op ≡ Ja → ⊥)
     → ((cond_is : _) (src : _) → op ≡ Jump cond_is src → ⊥) → (op ≡ RetK → ⊥) → (op ≡ RetA → ⊥)
-    → CanFollow op insn i (i + 1)
+    → IsAmong (next_places (Some op) insn i) (i + 1)
 follows-next Ja insn i a b c d = absurd (a refl)
 follows-next (Jump k src) insn i a b c d = absurd (b k src refl)
 follows-next RetK insn i a b c d = absurd (c refl)
 follows-next RetA insn i a b c d = absurd (d refl)
-follows-next _ insn i a b c d = refl
+follows-next _ insn i a b c d = inl refl

@@ -12,7 +12,7 @@ use Rattle.cbpf_code.specs.declared.checker.TheConstants.{MAX_INSTRUCTIONS, SLOT
 use Rattle.cbpf_code.specs.declared.extension.TheConstants.{FIRST_EXTENSION}
 use Rattle.cbpf_code.specs.Opcode.{op_of}
 use Rattle.cbpf_code.specs.Extension.{ext_at}
-use Rattle.cbpf_code.specs.ControlFlow.{CanFollow, IsTarget}
+use Rattle.cbpf_code.specs.ControlFlow.{next_places, jump_targets, IsAmong}
 use Rattle.cbpf_code.specs.Faults.{uses_slot, divides_by_k, shifts_by_k, loads_absolute}
 use Rattle.cbpf_code.specs.Sound.{IsSound}
 use Rattle.cbpf_code.specs.CheckSteps.{IsWellFormed}
@@ -26,7 +26,7 @@ pub record Allowed (op : Op) (insn : Insn) (i n : ℕ) : Type 0 where
   pub slot : IsTrue (uses_slot op) → insn.k < SLOTS
   pub divisor : IsTrue (divides_by_k op) → 0 < insn.k
   pub shift : IsTrue (shifts_by_k op) → insn.k < 32
-  pub targets : (t : ℕ) → IsTarget op insn i t → t < n
+  pub targets : (t : ℕ) → IsAmong (jump_targets op insn i) t → t < n
   pub extension : IsTrue (loads_absolute op) → FIRST_EXTENSION ≤ insn.k → ext_at insn.k ≡ None → ⊥
 
 -- ---- where C1 to C9 are absent
@@ -59,16 +59,18 @@ formed_allowed list i insn op formed here known = record {
 }
 
 allowed_next : (op : Op) (insn : Insn) (i n t : ℕ) → Allowed op insn i n → i < n
-    → (i + 1 ≡ n → ((op ≡ RetK) ⊎ (op ≡ RetA) → ⊥) → ⊥) → CanFollow op insn i t → t < n
+    → (i + 1 ≡ n → ((op ≡ RetK) ⊎ (op ≡ RetA) → ⊥) → ⊥) → IsAmong (next_places (Some op) insn i) t → t < n
 allowed_next Ja insn i n t allowed below last h = allowed.targets t h
 allowed_next (Jump cond src) insn i n t allowed below last h = allowed.targets t h
 allowed_next RetK insn i n t allowed below last h = absurd h
 allowed_next RetA insn i n t allowed below last h = absurd h
 allowed_next _ insn i n t allowed below last h =
-    let never = λ (e : i + 1 ≡ n). last e (λ r. elim r [ inl a ↦ cc | inr b ↦ cc ]) in omega arith
+    let never = λ (e : i + 1 ≡ n). last e (λ r. elim r [ inl a ↦ cc | inr b ↦ cc ]) in
+    elim h [ inl e ↦ omega (arith, e) | inr n ↦ absurd n ]
 
 pub formed_next : (list : List Insn) (i : ℕ) (insn : Insn) (op : Op) → IsWellFormed list
-    → slice_get list i ≡ Some insn → op_of insn.code ≡ Some op → (t : ℕ) → CanFollow op insn i t → t < length list
+    → slice_get list i ≡ Some insn → op_of insn.code ≡ Some op → (t : ℕ) → IsAmong (next_places (Some op) insn i) t
+    → t < length list
 formed_next list i insn op formed here known t follows =
     allowed_next op insn i (length list) t (formed_allowed list i insn op formed here known)
     (slice_get_within list i insn here)
@@ -102,5 +104,5 @@ sound_allowed list i insn op sound here known = formed_allowed list i insn op (w
 
 -- what follows an instruction of a checked program is one of its indices
 pub sound_next : (list : List Insn) (i : ℕ) (insn : Insn) (op : Op) → IsSound list → slice_get list i ≡ Some insn
-    → op_of insn.code ≡ Some op → (t : ℕ) → CanFollow op insn i t → t < length list
-sound_next list i insn op sound here known = grind (arith, formed_next, well_formed)
+    → op_of insn.code ≡ Some op → (t : ℕ) → IsAmong (next_places (Some op) insn i) t → t < length list
+sound_next list i insn op sound here known = formed_next list i insn op (well_formed list sound) here known

@@ -1,7 +1,7 @@
 -- The jump graph of a list of instructions, and the slots of scratch memory that a path through it leaves
 -- unwritten (Documentation/networking/filter, "BPF engine and instruction set"; bpf(4), "FILTER MACHINE":
 -- jumps are relative to the next instruction).
-use Rattle.std.specs.Prelude.{◌≡◌, ◌⊎◌, ℕ, ◌+◌, ◌<◌, Bool, true, false, IsTrue, List, Option, Some, None, slice_get}
+use Rattle.std.specs.Prelude.{◌≡◌, ◌⊎◌, ℕ, ◌+◌, ◌<◌, Bool, true, false, IsTrue, List, [], ◌∷◌, Option, Some, slice_get}
 use Rattle.cbpf_code.specs.declared.insn.Insn.{Insn}
 use Rattle.cbpf_code.specs.declared.opcode.Op.{Op}
 use Rattle.cbpf_code.specs.declared.opcode.Op.TheVariants.{LdMem, LdxMem, St, Stx, Ja, Jump, RetK, RetA}
@@ -12,28 +12,30 @@ abbrev pub InsnAt : List Insn → ℕ → (Op → Insn → Type 0) → Type 0
 InsnAt list i Has =
     (insn : Insn) × (op : Op) × (slice_get list i ≡ Some insn) × (op_of insn.code ≡ Some op) × Has op insn
 
--- t is where the instruction at i may jump
-abbrev pub IsTarget : Op → Insn → ℕ → ℕ → Type 0
-IsTarget Ja insn i t = t ≡ i + 1 + insn.k
-IsTarget (Jump cond src) insn i t = (t ≡ i + 1 + insn.jt) ⊎ (t ≡ i + 1 + insn.jf)
-IsTarget _ insn i t = ⊥
+-- the places to which the instruction at i may jump
+abbrev pub jump_targets : Op → Insn → ℕ → List ℕ
+jump_targets Ja insn i = (i + 1 + insn.k) ∷ []
+jump_targets (Jump cond src) insn i = (i + 1 + insn.jt) ∷ (i + 1 + insn.jf) ∷ []
+jump_targets _ insn i = []
 
--- t may follow the instruction at i: nothing follows a return, only its targets follow a jump, and else the next one
-abbrev pub CanFollow : Op → Insn → ℕ → ℕ → Type 0
-CanFollow RetK insn i t = ⊥
-CanFollow RetA insn i t = ⊥
-CanFollow Ja insn i t = IsTarget Ja insn i t
-CanFollow (Jump cond src) insn i t = IsTarget (Jump cond src) insn i t
-CanFollow _ insn i t = t ≡ i + 1
+-- The places that may follow the instruction at i: none after a return, its targets after a jump, and else the next
+-- one. An unknown code also goes on to the next.
+abbrev pub next_places : Option Op → Insn → ℕ → List ℕ
+next_places (Some RetK) insn i = []
+next_places (Some RetA) insn i = []
+next_places (Some Ja) insn i = jump_targets Ja insn i
+next_places (Some (Jump cond src)) insn i = jump_targets (Jump cond src) insn i
+next_places _ insn i = (i + 1) ∷ []
 
--- the same where the code may be unknown: an unknown one goes on to the next instruction
-abbrev pub CanFollowCode : Option Op → Insn → ℕ → ℕ → Type 0
-CanFollowCode (Some op) insn i t = CanFollow op insn i t
-CanFollowCode None insn i t = t ≡ i + 1
+-- t is one of the places
+abbrev pub IsAmong : List ℕ → ℕ → Type 0
+IsAmong [] t = ⊥
+IsAmong (p ∷ ps) t = (t ≡ p) ⊎ IsAmong ps t
 
 -- an edge of the jump graph from i to t
 abbrev pub IsSuccessor : List Insn → ℕ → ℕ → Type 0
-IsSuccessor list i t = (insn : Insn) × (slice_get list i ≡ Some insn) × CanFollowCode (op_of insn.code) insn i t
+IsSuccessor list i t =
+    (insn : Insn) × (slice_get list i ≡ Some insn) × IsAmong (next_places (op_of insn.code) insn i) t
 
 abbrev pub loads_slot : Op → Bool
 loads_slot LdMem = true

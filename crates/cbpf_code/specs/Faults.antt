@@ -16,7 +16,7 @@ use Rattle.cbpf_code.specs.declared.checker.CheckFault.TheVariants.{ZeroDivisor,
 use Rattle.cbpf_code.specs.declared.checker.CheckFault.TheVariants.{UnknownExtension, NoReturn, UnwrittenSlot}
 use Rattle.cbpf_code.specs.Opcode.{op_of}
 use Rattle.cbpf_code.specs.Extension.{ext_at}
-use Rattle.cbpf_code.specs.ControlFlow.{InsnAt, IsTarget, loads_slot, MayBeUnwritten}
+use Rattle.cbpf_code.specs.ControlFlow.{InsnAt, jump_targets, IsAmong, loads_slot, MayBeUnwritten}
 
 -- operations whose k is a slot of scratch memory
 abbrev pub uses_slot : Op → Bool
@@ -58,7 +58,7 @@ ShiftsTooFar op insn = IsTrue (shifts_by_k op) × (32 ≤ insn.k)
 
 -- C7: a target of the instruction at index i isn't one of n instructions
 abbrev pub JumpsOutside : Op → Insn → ℕ → ℕ → Type 0
-JumpsOutside op insn i n = (t : ℕ) × IsTarget op insn i t × (n ≤ t)
+JumpsOutside op insn i n = (t : ℕ) × IsAmong (jump_targets op insn i) t × (n ≤ t)
 
 -- C8: an absolute load whose k is 0xfffff000 or more, and no extension has this place
 abbrev pub LoadsUnknownExtension : Op → Insn → Type 0

@@ -66,8 +66,8 @@ fn still_unwritten(mask: u16, op: Op, insn: Insn) -> u16
 /// Adds `left` to the masks of the instructions that may follow the one at `i`.
 fn propagate(masks: &mut [u16], i: usize, op: Op, insn: Insn, left: u16)
     requires few { i < MAX_INSTRUCTIONS }
-    requires inside { (t : ℕ) → flow.CanFollow op insn i t → t < length masks.old }
-    ensures { AddsToMasks masks.old masks.new left (λ t. flow.CanFollow op insn i t) }
+    requires inside { (t : ℕ) → flow.IsAmong (flow.next_places (Some op) insn i) t → t < length masks.old }
+    ensures { AddsToMasks masks.old masks.new left (λ t. flow.IsAmong (flow.next_places (Some op) insn i) t) }
 {
     match op {
         Op::RetK | Op::RetA => (),

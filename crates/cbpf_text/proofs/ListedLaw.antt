@@ -41,7 +41,7 @@ use Rattle.std.proofs.lemmas.Option.{slice_get_within, get_or_from_slice_get}
 use Rattle.cbpf_code.specs.declared.checker.TheConstants.{MAX_INSTRUCTIONS}
 use Rattle.cbpf_code.specs.declared.opcode.Op.TheVariants.{Alu, Ja, Jump}
 use Rattle.cbpf_code.specs.declared.opcode.Src.TheVariants as src
-use Rattle.cbpf_code.specs.ControlFlow.{IsTarget}
+use Rattle.cbpf_code.specs.ControlFlow.{jump_targets, IsAmong}
 use Rattle.cbpf_code.specs.Sound.{IsSound}
 use Rattle.cbpf_code.proofs.SoundLemmas.{sound_few, sound_some, sound_known, sound_allowed}
 use Rattle.cbpf_syntax.specs.Tokens.{tokens_of}
@@ -263,12 +263,12 @@ lists_line n i insn op insns known most l range inside b =
 
 -- The lines of a checked program.
 
-targets_inside : (n i : ℕ) (insn : Insn) (op : Op) → ((t : ℕ) → IsTarget op insn i t → t < n)
+targets_inside : (n i : ℕ) (insn : Insn) (op : Op) → ((t : ℕ) → IsAmong (jump_targets op insn i) t → t < n)
     → TargetsInside n i insn (operand_of op)
 targets_inside n i insn (Alu a src.X) t = tt
-targets_inside n i insn Ja t = t (i + 1 + insn.k) refl
-targets_inside n i insn (Jump c src.K) t = (t (i + 1 + insn.jt) (inl refl), t (i + 1 + insn.jf) (inr refl))
-targets_inside n i insn (Jump c src.X) t = (t (i + 1 + insn.jt) (inl refl), t (i + 1 + insn.jf) (inr refl))
+targets_inside n i insn Ja t = t (i + 1 + insn.k) (inl refl)
+targets_inside n i insn (Jump c src.K) t = (t (i + 1 + insn.jt) (inl refl), t (i + 1 + insn.jf) (inr (inl refl)))
+targets_inside n i insn (Jump c src.X) t = (t (i + 1 + insn.jt) (inl refl), t (i + 1 + insn.jf) (inr (inl refl)))
 targets_inside n i insn x t = tt
 
 -- the lines of a list from an index on

@@ -3,7 +3,7 @@ use Rattle.cbpf_code.proofs.SlotMaskLemmas.{follows-next}
 use Rattle.cbpf_code.proofs.slots.propagate.Goals as goal
 
 pub add_to_mask-requires : goal.add_to_mask-requires
-add_to_mask-requires c = c.requires.inside _ (rw c.in-Ja.is refl)
+add_to_mask-requires c = c.requires.inside _ (rw c.in-Ja.is (inl refl))
 
 pub add_to_mask-requires-in-Jump : goal.add_to_mask-requires-in-Jump
 add_to_mask-requires-in-Jump c =
@@ -12,7 +12,7 @@ add_to_mask-requires-in-Jump c =
 
 pub add_to_mask-requires-in-Jump-2 : goal.add_to_mask-requires-in-Jump-2
 add_to_mask-requires-in-Jump-2 c =
-    let there = c.requires.inside (c.args.i + 1 + c.args.insn.jf) (rw c.in-Jump.is (inr refl)) in
+    let there = c.requires.inside (c.args.i + 1 + c.args.insn.jf) (rw c.in-Jump.is (inr (inl refl))) in
     omega (arith, c.from-in-Jump.ensures, c.add_to_mask-in-Jump.ensures.long)
 
 pub add_to_mask-requires-in_default : goal.add_to_mask-requires-in_default
