@@ -11,8 +11,9 @@ use Rattle.cbpf_reply.specs.declared.reply.Place.{Place}
 use Rattle.cbpf_machine.specs.Machine.{Machine}
 use Rattle.cbpf_dbg.specs.declared.cursor.Cursor.{Cursor}
 use Rattle.cbpf_dbg.specs.Joined.{entries_after}
-use Rattle.cbpf_dbg.specs.Cursor.{AreLeft, IsEnd, Stands, end_of_run}
+use Rattle.cbpf_dbg.specs.Cursor.{AreLeft, IsEnd, Stands}
 use Rattle.cbpf_dbg.proofs.JoinedLemmas.{ahead-end}
+use Rattle.cbpf_dbg.proofs.RunLemmas.{end_of_run}
 
 cut : {X : Type 0} (xs : List X) (i : ℕ) (x : X) (rest : List X) → drop i xs ≡ x ∷ rest
     → (slice_get xs i ≡ Some x) × (rest ≡ drop (suc i) xs)

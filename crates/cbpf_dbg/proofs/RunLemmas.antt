@@ -1,7 +1,7 @@
 -- What a run answers where it ends.
 use Rattle.std.proofs.Common.{◌≡◌, ℕ, suc, ◌+◌, ◌-◌, ◌<◌, ◌≤◌, List, [], ◌∷◌, ◌++◌, length, true, false}
 use Rattle.std.proofs.Common.{arith, sym, ap, ◌∙◌, refl}
-use Rattle.std.specs.Prelude.{Option, Some, None, filter, slice_get, nat_lt, nat_le}
+use Rattle.std.specs.Prelude.{Option, Some, None, filter, min, slice_get, nat_lt, nat_le}
 use Rattle.std.proofs.lemmas.Bool.Decides.{nat_tests}
 use Rattle.std.proofs.lemmas.List.Elements.{All-filter, All-head, All-map, filter_passes}
 use Rattle.cbpf_machine.specs.Machine.{Machine}
@@ -17,11 +17,16 @@ use Rattle.cbpf_dbg.specs.Joined.{Entry, joined, entries_after, is_hit, stops_of
 use Rattle.cbpf_dbg.specs.View.{View, start}
 use Rattle.cbpf_dbg.specs.Commands.{run_to, run_out, within_limit, finished, limited}
 use Rattle.cbpf_dbg.specs.Cursor.{Stands, view_at, entry_here, Gives, run_from, step_from, ComesTo}
-use Rattle.cbpf_dbg.specs.Cursor.{end_of_run, owed}
+use Rattle.cbpf_dbg.specs.Cursor.{owed}
 use Rattle.cbpf_dbg.proofs.JoinedLemmas.{ahead-end}
 use Rattle.cbpf_dbg.specs.Breakpoints.{Breakpoints}
 
 -- ---- the limit
+
+-- the packet before which a run from a packet ends that comes to no hit
+abbrev pub end_of_run : Option ℕ → ℕ → ℕ → ℕ
+end_of_run None first count = count + 1
+end_of_run (Some n) first count = min (first + n) (count + 1)
 
 -- before the end the limit is not reached
 within_end : (limit : Option ℕ) (first packet count : ℕ) → packet < end_of_run limit first count → first ≤ packet

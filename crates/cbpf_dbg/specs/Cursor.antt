@@ -123,11 +123,6 @@ abbrev pub turns_of : Machine → Savefile → Breakpoints → (View → RunRepl
 turns_of machine c breakpoints answer w =
     let m = view_at machine c breakpoints w in turns_in m machine c.records (answer m)
 
--- the packet before which a run from a packet ends that comes to no hit
-abbrev pub end_of_run : Option ℕ → ℕ → ℕ → ℕ
-end_of_run None first count = count + 1
-end_of_run (Some n) first count = min (first + n) (count + 1)
-
 -- a run from a place ends before this packet, which is a later one where the place's has begun
 pub record IsEnd (capture : List Record) (place : Place) (end : ℕ) : Type 0 where
   pub within : end ≤ length capture + 1

@@ -15,7 +15,7 @@ use Rattle.pcap_classic.specs.Reading.{Reading}
 use Rattle.pcap_classic.specs.Records.{Record}
 use Rattle.pcap_classic.specs.Savefile.{Savefile}
 use Rattle.cbpf_why.specs.Chosen.{AreSorted, chosen, is_chosen, is_within}
-use Rattle.cbpf_why.specs.Job.{Broke, EndsBy, Faulted, IsOver, Looked, LookedKnown, Ranged, TookFrom, TookFromKnown, Stopped, Took, Went}
+use Rattle.cbpf_why.specs.Job.{Broke, Faulted, IsOver, Looked, LookedKnown, Ranged, TookFrom, TookFromKnown, Stopped, Took, Went}
 use Rattle.cbpf_why.specs.Question.{machine_in}
 use Rattle.cbpf_why.specs.Reports.{ends_beyond, goes_to_end, packet_text, packets_text}
 use Rattle.cbpf_why.specs.declared.chosen.PacketRange.{PacketRange}
@@ -25,6 +25,10 @@ use Rattle.cbpf_why.specs.declared.job.WhyFault.{WhyFault}
 use Rattle.cbpf_why.specs.declared.job.WhyFault.TheVariants as why
 
 -- ---- which ranges a number stands in
+
+-- a range ends by a number of packets
+abbrev pub EndsBy : ℕ → PacketRange → Type 0
+EndsBy count range = range.last ≤ count
 
 rest_of : {X : Type 0} (P : X → Type 0) (x : X) (xs : List X) → All P (x ∷ xs) → All P xs
 rest_of P x xs h = λ k d l. h (suc k) d (omega (arith, l))

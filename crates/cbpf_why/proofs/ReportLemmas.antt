@@ -14,7 +14,7 @@ use Rattle.pcap_classic.specs.Reading.{Reading}
 use Rattle.pcap_classic.specs.Records.{AreNumbered, Record}
 use Rattle.pcap_classic.specs.Savefile.{Savefile}
 use Rattle.cbpf_why.specs.Chosen.{chosen, is_chosen}
-use Rattle.cbpf_why.specs.Job.{Broke, Closed, Ends, EndsBy, Looked, LookedKnown, Stopped, Went}
+use Rattle.cbpf_why.specs.Job.{Broke, Closed, Ends, Looked, LookedKnown, Stopped, Went}
 use Rattle.cbpf_why.specs.Question.{machine_in}
 use Rattle.cbpf_why.specs.Reports.{Reported, WroteFront, capture_end, closing_text, end_after, end_read, goes_to_end, packet_text, packets_text, report_text, shown_end}
 use Rattle.cbpf_why.specs.declared.chosen.PacketRange.{PacketRange}
@@ -24,7 +24,7 @@ use Rattle.cbpf_why.specs.declared.job.CaptureEnd.{CaptureEnd}
 use Rattle.cbpf_why.specs.declared.job.WhyFault.{WhyFault}
 use Rattle.cbpf_why.specs.declared.job.WhyFault.TheVariants as why
 use Rattle.cbpf_why.specs.declared.report.Report.{Report}
-use Rattle.cbpf_why.proofs.RangeLemmas.{all-end, asks-no-end, ends-later, none_above}
+use Rattle.cbpf_why.proofs.RangeLemmas.{EndsBy, all-end, asks-no-end, ends-later, none_above}
 
 -- ---- the records that were not read
 

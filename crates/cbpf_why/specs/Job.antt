@@ -179,10 +179,6 @@ pub record Broke {P : Type 0} (q : Question P) (old : Option Savefile) (new : Re
   pub known : LookedKnown q.packets.now old new.left new.count records
   pub stopped : Stopped fault w v (packets_text q.report (machine_in q) records)
 
--- a range ends by a number of packets
-abbrev pub EndsBy : ℕ → PacketRange → Type 0
-EndsBy count range = range.last ≤ count
-
 -- the end of the capture was read, or it wasn't asked for
 pub record Ends (ranges : List PacketRange) (old : Option Savefile) (new : Reading) (is_over : Bool) : Type 0 where
   pub asked : is_over ≡ goes_to_end ranges new.count

@@ -2,8 +2,7 @@ use Rattle.std.proofs.Common.{◌≡◌, ◌<◌, arith, length, take, get_or, r
 use Rattle.std.proofs.lemmas.List.Elements.{All-more}
 use Rattle.std.proofs.lemmas.Option.{slice_get-get_or}
 use Rattle.cbpf_code.proofs.WrittenLemmas.{appended-nil}
-use Rattle.cbpf_why.specs.Job.{EndsBy}
-use Rattle.cbpf_why.proofs.RangeLemmas.{all-ended, asks-end, asks-no-end, broke-more, ends-later, is-over, went-more, went-nothing}
+use Rattle.cbpf_why.proofs.RangeLemmas.{EndsBy, all-ended, asks-end, asks-no-end, broke-more, ends-later, is-over, went-more, went-nothing}
 use Rattle.cbpf_why.proofs.taking.take_ranges.Goals as goal
 
 pub loop-range-init : goal.loop-range-init

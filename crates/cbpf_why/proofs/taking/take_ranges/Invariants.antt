@@ -1,6 +1,7 @@
 use Rattle.std.proofs.Common.{◌≡◌, ◌<◌, ◌^◌, take}
 use Rattle.std.specs.List.{All}
-use Rattle.cbpf_why.specs.Job.{EndsBy, Went}
+use Rattle.cbpf_why.specs.Job.{Went}
+use Rattle.cbpf_why.proofs.RangeLemmas.{EndsBy}
 use Rattle.cbpf_why.proofs.taking.take_ranges.Given as goal
 
 abbrev pub invariant-loop-range : goal.invariant-loop-range
