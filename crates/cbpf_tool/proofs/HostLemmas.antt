@@ -35,10 +35,10 @@ assembled-some source form new (Err Write) h = part-some [] new _ h.2
 
 outcome-some : (script : List ℕ) (left new : Option (List ℕ)) (f g : FileSource) (t : Result (Unit {0}) ToolFault)
     → Debugged script left (Some []) new f g t → (text : List ℕ) × (new ≡ Some text)
-outcome-some script left new f g (Ok x) h = appended-some [] new _ h.outcome.3
-outcome-some script left new f g (Err Read) h = appended-some [] new _ h.outcome.7
+outcome-some script left new f g (Ok x) h = appended-some [] new _ h.outcome.wrote
+outcome-some script left new f g (Err Read) h = appended-some [] new _ h.outcome.wrote
 outcome-some script left new f g (Err Write) h = part-some [] new _ h.outcome.1
-outcome-some script left new f g (Err Memory) h = appended-some [] new _ h.outcome.3
+outcome-some script left new f g (Err Memory) h = appended-some [] new _ h.outcome.wrote
 outcome-some script left new f g (Err (RefusedSource e)) h = absurd h.outcome
 
 -- ---- what a tool did

@@ -138,18 +138,23 @@ module _ {script pending : List ℕ} {left old new : Option (List ℕ)} {m : Vie
 
   pub line-faulted : (pending' line : List ℕ) (left' : Option (List ℕ)) (e : ToolFault)
       → TakesLine p.rest pending' left' line (Err e) → Faulted script left' old new' f g e
-  line-faulted pending' line left' Read h = (
-    printed,
-    line,
-    h.2.rest,
-    p.split ∙ ap (λ (r : List ℕ). unlines p.done ++ r) h.2.split,
-    unread-nil pending' left' h.2.rest h.1 h.2.known,
-    h.0,
-    no_quit,
-    wrote,
-  )
+  line-faulted pending' line left' Read h = record {
+    printed = printed;
+    no_quit = no_quit;
+    part = line;
+    rest = h.2.rest;
+    split = p.split ∙ ap (λ (r : List ℕ). unlines p.done ++ r) h.2.split;
+    plain = h.0;
+    kept = unread-nil pending' left' h.2.rest h.1 h.2.known;
+    wrote = wrote;
+  }
   line-faulted pending' line left' Write h = absurd h
-  line-faulted pending' line left' Memory h = (printed, lines-some p.rest h, no_quit, wrote)
+  line-faulted pending' line left' Memory h = record {
+    printed = printed;
+    no_quit = no_quit;
+    goes_on = lines-some p.rest h;
+    wrote = wrote;
+  }
   line-faulted pending' line left' (RefusedSource e) h = absurd h
 
   -- a flush before a line failed
@@ -158,7 +163,7 @@ module _ {script pending : List ℕ} {left old new : Option (List ℕ)} {m : Vie
 
   -- the input ended after a newline
   pub end-done : (left' : Option (List ℕ)) → p.rest ≡ [] → left' ≡ Some [] → Finished script left' old new' f g
-  end-done left' e z = (printed, ap lines e, inr z, wrote)
+  end-done left' e z = record { printed = printed; whole = ap lines e; ended = inr z; wrote = wrote }
 
   module _ (new'' : Option (List ℕ)) (n : View) (g' : FileSource) {line : List ℕ} {more : List (List ℕ)}
       (next : lines p.rest ≡ line ∷ more) (is_known : IsTrue f.is_known) where
@@ -203,14 +208,24 @@ module _ {script pending : List ℕ} {left old new : Option (List ℕ)} {m : Vie
           output = rw (← q.1) (ran-output f.held f.failures g.failures g.failures empty_view m p.done p.text p.ran
               (line ∷ more) [] (at_quit line more q.0));
         } in
-        (all, refl, inl (quit-in p.done line more q.0), appended-then old new' new'' p.text [] wrote q.2)
+        record {
+          printed = all;
+          whole = refl;
+          ended = inl (quit-in p.done line more q.0);
+          wrote = appended-then old new' new'' p.text [] wrote q.2;
+        }
 
     -- after it the input is at its end
     pub last-done : (left' : Option (List ℕ)) → left' ≡ Some [] → more ≡ []
         → LineRan g g' m n (command_of line) new' new'' (Ok NextLine) → Finished script left' old new'' f g'
     last-done left' z e c =
         let r = c.1 still_known in
-        (one_line r.0 r.1, e, inr z, rw (append-nil r.0) (appended-then old new' new'' p.text r.0 wrote r.2))
+        record {
+          printed = one_line r.0 r.1;
+          whole = e;
+          ended = inr z;
+          wrote = rw (append-nil r.0) (appended-then old new' new'' p.text r.0 wrote r.2);
+        }
 
     pub line-done : {pending' : List ℕ} {left' : Option (List ℕ)} → has_newline line ≡ false
         → Took p.rest pending' left' (line ++ 10 ∷ []) → LineRan g g' m n (command_of line) new' new'' (Ok NextLine)
@@ -270,6 +285,11 @@ next rest pending held left Input e t = (_, next-last e t.0 t.3 t.1)
 pub ended : (script : List ℕ) (left old new new' : Option (List ℕ)) (f g : FileSource) (r : Result (Unit {0}) ToolFault)
     → Finished script left old new f g → Keeps new new' → IfErr r (λ e. e ≡ Write)
     → MatchResult r (λ _. Finished script left old new' f g) (λ e. Faulted script left old new' f g e)
-ended script left old new new' f g (Ok x) h k w = (h.0, h.1, h.2, appended-kept old new new' h.0.text h.3 k)
+ended script left old new new' f g (Ok x) h k w = record {
+  printed = h.printed;
+  whole = h.whole;
+  ended = h.ended;
+  wrote = appended-kept old new new' h.printed.text h.wrote k;
+}
 ended script left old new new' f g (Err e) h k w =
-    rw w (h.0, part-whole old new' h.0.text (appended-kept old new new' h.0.text h.3 k))
+    rw w (h.printed, part-whole old new' h.printed.text (appended-kept old new new' h.printed.text h.wrote k))

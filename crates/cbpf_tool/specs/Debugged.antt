@@ -17,24 +17,41 @@ pub record Printed (script : List ℕ) (before after : FileSource) : Type 0 wher
   pub split : lines script ≡ ls ++ more
   pub output : Output before.held empty_view before.failures ls text after.failures
 
--- after a read that failed: the output of the lines whose newline was read, of which none is `quit`; after them a
--- part of a line was read. After a write that failed: a beginning of the output of the first lines. Out of memory:
--- the output of the lines before the one that could not be held, of which none is `quit`. `left` is what the reader has
--- left, and `old` and `new` are what the writer held and holds.
+-- after a read that failed: `left` is what the reader has left, and `old` and `new` are what the writer held and holds
+pub record ReadFailed (script : List ℕ) (left old new : Option (List ℕ)) (before after : FileSource) : Type 0 where
+  -- the lines whose newline was read
+  pub printed : Printed script before after
+  pub no_quit : ¬ HasQuit printed.ls
+  -- what was read of the line after them, and what was not read
+  pub part : List ℕ
+  pub rest : List ℕ
+  pub split : script ≡ unlines printed.ls ++ (part ++ rest)
+  pub plain : has_newline part ≡ false
+  pub kept : left ≡ Some rest
+  pub wrote : Appended old new printed.text
+
+-- out of memory: `printed` has the lines before the one that could not be held
+pub record LineUnheld (script : List ℕ) (old new : Option (List ℕ)) (before after : FileSource) : Type 0 where
+  pub printed : Printed script before after
+  pub no_quit : ¬ HasQuit printed.ls
+  pub goes_on : printed.more ≢ []
+  pub wrote : Appended old new printed.text
+
+-- after a fault; after a write that failed, a beginning of the output of the first lines was written
 abbrev pub Faulted : List ℕ → Option (List ℕ) → Option (List ℕ) → Option (List ℕ) → FileSource → FileSource
     → ToolFault → Type 0
-Faulted script left old new before after Read =
-    (p : Printed script before after) × (part rest : List ℕ) × (script ≡ unlines p.ls ++ (part ++ rest))
-    × (left ≡ Some rest) × (has_newline part ≡ false) × (¬ HasQuit p.ls) × Appended old new p.text
+Faulted script left old new before after Read = ReadFailed script left old new before after
 Faulted script left old new before after Write = (p : Printed script before after) × AppendedPart old new p.text
-Faulted script left old new before after Memory =
-    (p : Printed script before after) × (p.more ≢ []) × (¬ HasQuit p.ls) × Appended old new p.text
+Faulted script left old new before after Memory = LineUnheld script old new before after
 Faulted script left old new before after (RefusedSource e) = ⊥
 
--- after `Ok`: the output of all lines, of which one is `quit`, or the reader has nothing left
-abbrev pub Finished : List ℕ → Option (List ℕ) → Option (List ℕ) → Option (List ℕ) → FileSource → FileSource → Type 0
-Finished script left old new before after = (p : Printed script before after) × (p.more ≡ [])
-    × (HasQuit p.ls ⊎ (left ≡ Some [])) × Appended old new p.text
+-- after `Ok`: the output of all lines
+pub record Finished (script : List ℕ) (left old new : Option (List ℕ)) (before after : FileSource) : Type 0 where
+  pub printed : Printed script before after
+  pub whole : printed.more ≡ []
+  -- one of the lines is `quit`, or the reader has nothing left
+  pub ended : HasQuit printed.ls ⊎ (left ≡ Some [])
+  pub wrote : Appended old new printed.text
 
 -- what was written of a script, what is left of it, and how the files went on, after `Ok` or a fault
 pub record Debugged {X : Type 0} (script : List ℕ) (left old new : Option (List ℕ)) (before after : FileSource)
