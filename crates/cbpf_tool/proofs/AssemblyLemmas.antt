@@ -1,5 +1,5 @@
 -- What the assembler's answers mean.
-use Rattle.std.proofs.Common.{ℕ, List, []}
+use Rattle.std.proofs.Common.{ℕ, List, [], refl}
 use Rattle.std.specs.Prelude.{◌≢◌, IfErr, Option, Result, Ok, Err}
 use Rattle.std.specs.Io.KnownBytes.{Keeps}
 use Rattle.cbpf_code.specs.Writing.{Appended, AppendedPart}
@@ -12,7 +12,7 @@ use Rattle.cbpf_text.specs.declared.fault.AsmFault.{AsmFault}
 use Rattle.cbpf_text.specs.declared.fault.AsmFault.TheVariants as asm
 use Rattle.cbpf_tool.specs.declared.fault.ToolFault.{ToolFault}
 use Rattle.cbpf_tool.specs.declared.fault.ToolFault.TheVariants.{Source, Read, Write, Memory}
-use Rattle.cbpf_tool.specs.Assembling.{Assembled, IsEarly, IsReadingFault, form_text}
+use Rattle.cbpf_tool.specs.Assembling.{Assembled, IsReadingFault, form_text}
 use Rattle.cbpf_tool.proofs.ScriptLemmas.{part-whole}
 
 module _ (source : List ℕ) (form : Form) (old : Option (List ℕ)) where
@@ -50,13 +50,13 @@ module _ (source : List ℕ) (form : Form) (old : Option (List ℕ)) where
     asm-done mid new x w k = (list, a, appended-kept old mid new (form_text form list) w k)
 
 pub asm-untouched : (source : List ℕ) (form : Form) (old new : Option (List ℕ)) (r : Result (Unit {0}) ToolFault)
-    → Assembled source form old new r → IfErr r (λ e. IsEarly e → Appended old new [])
+    → Assembled source form old new r → IfErr r (λ e. e ≢ Write → Appended old new [])
 unfolding Assembled
 asm-untouched source form old new (Ok x) h = tt
 asm-untouched source form old new (Err (Source f)) h = λ i. h.2
 asm-untouched source form old new (Err Read) h = λ i. h
 asm-untouched source form old new (Err Memory) h = λ i. h
-asm-untouched source form old new (Err Write) h = λ i. absurd i
+asm-untouched source form old new (Err Write) h = λ i. absurd (i refl)
 
 pub ruleset asm_answers =
     (asm-memory, asm-refused, asm-unread, asm-unwritten, asm-unflushed, asm-done, asm-untouched, appended-nil)

@@ -18,13 +18,6 @@ abbrev pub form_text : Form → List Insn → List ℕ
 form_text Decimal list = word_text list
 form_text C list = c_form list
 
--- a fault before anything is written
-abbrev pub IsEarly : ToolFault → Type 0
-IsEarly (Source f) = Unit {0}
-IsEarly Read = Unit {0}
-IsEarly Memory = Unit {0}
-IsEarly Write = ⊥
-
 -- a fault of reading the source
 abbrev pub IsReadingFault : ToolFault → Type 0
 IsReadingFault (Source f) = ⊥

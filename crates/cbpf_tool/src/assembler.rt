@@ -1,10 +1,11 @@
 //! Assembles what a reader gives.
 
-ghost use Rattle.std.specs.Prelude.{◌≡◌, ℕ, List, [], Some, IfOk, IfErr, OnOk};
+ghost use Rattle.std.specs.Prelude.{◌≡◌, ◌≢◌, ℕ, List, [], Some, IfOk, IfErr, OnOk};
 ghost use Rattle.std.specs.Io.KnownBytes.{IsAtEnd};
 ghost use Rattle.cbpf_code.specs.Writing.{Appended, Wrote};
 ghost use Rattle.cbpf_text.specs.Assembled.{Assembles};
-ghost use Rattle.cbpf_tool.specs.Assembling.{Assembled, IsEarly, IsReadingFault, form_text};
+ghost use Rattle.cbpf_tool.specs.Assembling.{Assembled, IsReadingFault, form_text};
+ghost use Rattle.cbpf_tool.specs.declared.fault.ToolFault.TheVariants as fault;
 
 use crate::READ_SIZE;
 use crate::fault::ToolFault;
@@ -99,7 +100,8 @@ pub fn asm<A: Allocator, R: Read, W: Write>(
     ensures written { (source : List ℕ) → R.remaining reader.old ≡ Some source
         → Assembled source form (W.contents writer.old) (W.contents writer.new) result }
     ensures ended { OnOk result (IsAtEnd (R.remaining reader.new)) }
-    ensures untouched { IfErr result (λ e. IsEarly e → Appended (W.contents writer.old) (W.contents writer.new) []) }
+    ensures untouched { IfErr result (λ e. e ≢ fault.Write
+        → Appended (W.contents writer.old) (W.contents writer.new) []) }
 {
     match read_source(&alloc, reader) {
         Ok(source) => assemble_into(&alloc, &source, writer, form),
