@@ -1,9 +1,10 @@
 -- Words and blanks of a text.
-use Rattle.std.proofs.Common.{◌≡◌, ℕ, suc, ◌+◌, ◌-◌, ◌<◌, ◌≤◌, not, [], ◌∷◌, take, drop, inl, inr, refl, sym, ap, ◌∙◌}
-use Rattle.std.proofs.Common.{true, false, List, ◌++◌, length, get_or, drop-cons, add-one, length-drop, take_all, arith}
-use Rattle.std.specs.Prelude.{reverse}
+use Rattle.std.proofs.Common.{◌≡◌, ℕ, suc, ◌+◌, ◌-◌, ◌<◌, ◌≤◌, not, [], ◌∷◌, take, drop, inl, inr, refl, ap, ◌∙◌}
+use Rattle.std.proofs.Common.{true, false, List, length, get_or, drop-cons, add-one, length-drop, take_all, arith}
+use Rattle.std.specs.List.{suffix_len}
 use Rattle.std.proofs.lemmas.Bool.{cases_Bool}
-use Rattle.std.proofs.lemmas.List.{take_more, nil_from_length, reverse-append, reverse-reverse}
+use Rattle.std.proofs.lemmas.List.{nil_from_length}
+use Rattle.std.proofs.lemmas.List.Sums.{suffix_len-take_yes, suffix_len-take_no}
 use Rattle.cbpf_code.specs.WordTokens.{is_blank}
 use Rattle.cbpf_code.specs.Text.{put_front}
 use Rattle.cbpf_tool.specs.LineWords.{words_of, after_words, word_end, trim_start, trim_end}
@@ -13,10 +14,13 @@ use Rattle.cbpf_tool.specs.LineWords.{words_of, after_words, word_end, trim_star
 drop-none : (s : List ℕ) (i : ℕ) → length s ≤ i → drop i s ≡ []
 drop-none s i l = nil_from_length (drop i s) (omega (arith, length-drop i s))
 
+one-more : (n : ℕ) → 1 + n ≡ suc n
+one-more n = omega arith
+
 pub start-step : (s : List ℕ) (i : ℕ) → i < length s → is_blank (get_or s i 0) ≡ true
     → trim_start (drop i s) ≡ trim_start (drop (i + 1) s)
 unfolding trim_start
-start-step s i l h = rw (drop-cons s i 0 l, h, add-one) refl
+start-step s i l h = rw (drop-cons s i 0 l, h, one-more, add-one) refl
 
 pub start-stop : (s : List ℕ) (i : ℕ) → i < length s → is_blank (get_or s i 0) ≡ false
     → trim_start (drop i s) ≡ drop i s
@@ -29,28 +33,19 @@ start-end s i l = rw (drop-none s i l) refl
 
 pub ruleset starts = (start-step, start-stop, start-end)
 
--- the last of the first e bytes
-last-of : (s : List ℕ) (e : ℕ) → 0 < e → e ≤ length s → take e s ≡ take (e - 1) s ++ get_or s (e - 1) 0 ∷ []
-last-of s e p l =
-    let k : e ≡ (e - 1) + 1 = omega arith in
-    ap (λ n. take n s) k ∙ take_more s (e - 1) 0 (omega arith)
-
 pub end-step : (s : List ℕ) (e : ℕ) → 0 < e → e ≤ length s → is_blank (get_or s (e - 1) 0) ≡ true
-    → trim_end (take e s) ≡ trim_end (take (e - 1) s)
-unfolding trim_start trim_end
-end-step s e p l h = rw (last-of s e p l, reverse-append, h) refl
+    → e - suffix_len is_blank (take e s) ≡ e - 1 - suffix_len is_blank (take (e - 1) s)
+end-step s e p l h = omega (arith, suffix_len-take_yes is_blank s e 0 p l h)
 
-append-back : (b : ℕ) (bs : List ℕ) → reverse (b ∷ reverse bs) ≡ bs ++ b ∷ []
-append-back b bs = ap reverse (sym (reverse-append bs (b ∷ []))) ∙ reverse-reverse (bs ++ b ∷ [])
+pub end-stop : (s : List ℕ) (e : ℕ) → length s - suffix_len is_blank s ≡ e - suffix_len is_blank (take e s) → 0 < e
+    → e ≤ length s → is_blank (get_or s (e - 1) 0) ≡ false → take e s ≡ trim_end s
+unfolding trim_end
+end-stop s e k p l h = ap (λ n. take n s) (omega (arith, k, suffix_len-take_no is_blank s e 0 p l h))
 
-pub end-stop : (s : List ℕ) (e : ℕ) → 0 < e → e ≤ length s → is_blank (get_or s (e - 1) 0) ≡ false
-    → trim_end (take e s) ≡ take e s
-unfolding trim_start trim_end
-end-stop s e p l h = rw (last-of s e p l, reverse-append, h) (append-back (get_or s (e - 1) 0) (take (e - 1) s))
-
-pub end-none : (s : List ℕ) (e : ℕ) → e ≤ 0 → trim_end (take e s) ≡ take e s
-unfolding trim_start trim_end
-end-none s e l = let z : e ≡ 0 = omega arith in rw z refl
+pub end-none : (s : List ℕ) (e : ℕ) → length s - suffix_len is_blank s ≡ e - suffix_len is_blank (take e s) → e ≤ 0
+    → take e s ≡ trim_end s
+unfolding trim_end
+end-none s e k l = ap (λ n. take n s) (omega (arith, k))
 
 pub ruleset ends = (end-step, end-stop, end-none)
 
@@ -58,7 +53,7 @@ pub ruleset ends = (end-step, end-stop, end-none)
 
 pub word-step : (s : List ℕ) (i : ℕ) → i < length s → is_blank (get_or s i 0) ≡ false
     → word_end (drop i s) ≡ word_end (drop (i + 1) s) + 1
-word-step s i l h = rw (drop-cons s i 0 l, h, add-one, add-one) refl
+word-step s i l h = rw (drop-cons s i 0 l, h, one-more, add-one, add-one) refl
 
 pub word-stop : (s : List ℕ) (i : ℕ) → i < length s → is_blank (get_or s i 0) ≡ true → word_end (drop i s) ≡ 0
 word-stop s i l h = rw (drop-cons s i 0 l, h) refl
@@ -73,9 +68,8 @@ begun-words : (b : ℕ) (bs : List ℕ) → is_blank b ≡ false
 unfolding words_of
 begun-words b [] h = rw h refl
 begun-words b (x ∷ xs) h = elim (cases_Bool (is_blank x)) [
-  | inl e ↦ let w : word_end (x ∷ xs) ≡ 0 = rw e refl in rw (h, ap not e, w) refl
-  | inr e ↦ let w : word_end (x ∷ xs) ≡ suc (word_end xs) = rw e refl in
-      rw (h, ap not e, w) (ap (put_front b) (begun-words x xs e))
+  | inl e ↦ rw (h, ap not e) refl
+  | inr e ↦ rw (h, ap not e, one-more (word_end xs)) (ap (put_front b) (begun-words x xs e))
 ]
 
 begun-rest : (n b : ℕ) (bs : List ℕ) → is_blank b ≡ false
@@ -83,15 +77,15 @@ begun-rest : (n b : ℕ) (bs : List ℕ) → is_blank b ≡ false
 unfolding after_words
 begun-rest n b [] h = rw h refl
 begun-rest n b (x ∷ xs) h = elim (cases_Bool (is_blank x)) [
-  | inl e ↦ let w : word_end (x ∷ xs) ≡ 0 = rw e refl in rw (h, ap not e, w) refl
-  | inr e ↦ let w : word_end (x ∷ xs) ≡ suc (word_end xs) = rw e refl in rw (h, ap not e, w) (begun-rest n x xs e)
+  | inl e ↦ rw (h, ap not e) refl
+  | inr e ↦ rw (h, ap not e, one-more (word_end xs)) (begun-rest n x xs e)
 ]
 
 pub no-words : (text : List ℕ) → length (trim_start text) ≡ 0 → words_of text ≡ []
 unfolding words_of trim_start
 no-words [] n = refl
 no-words (b ∷ bs) n = elim (cases_Bool (is_blank b)) [
-  | inl e ↦ rw e (no-words bs (rw e at n))
+  | inl e ↦ rw e (no-words bs (rw (e, one-more) at n))
   | inr e ↦ absurd (let k : suc (length bs) ≡ 0 = rw e at n in omega arith)
 ]
 
@@ -100,9 +94,9 @@ pub first-word : (text : List ℕ) (i : ℕ) → i ≡ word_end (trim_start text
 unfolding words_of trim_start
 first-word [] i k n = absurd (n refl)
 first-word (b ∷ bs) i k n = elim (cases_Bool (is_blank b)) [
-  | inl e ↦ rw e (first-word bs i (rw e at k) (rw e at n))
+  | inl e ↦ rw (e, one-more) (first-word bs i (rw (e, one-more) at k) (rw (e, one-more) at n))
   | inr e ↦ let t : trim_start (b ∷ bs) ≡ b ∷ bs = rw e refl in
-      let m : i ≡ suc (word_end bs) = k ∙ rw (t, e) refl in
+      let m : i ≡ suc (word_end bs) = k ∙ rw (t, e, one-more) refl in
       rw (t, m) (begun-words b bs e)
 ]
 
@@ -111,9 +105,9 @@ pub first-rest : (n : ℕ) (text : List ℕ) (i : ℕ) → i ≡ word_end (trim_
 unfolding after_words trim_start
 first-rest n [] i k z = absurd (z refl)
 first-rest n (b ∷ bs) i k z = elim (cases_Bool (is_blank b)) [
-  | inl e ↦ rw e (first-rest n bs i (rw e at k) (rw e at z))
+  | inl e ↦ rw (e, one-more) (first-rest n bs i (rw (e, one-more) at k) (rw (e, one-more) at z))
   | inr e ↦ let t : trim_start (b ∷ bs) ≡ b ∷ bs = rw e refl in
-      let m : i ≡ suc (word_end bs) = k ∙ rw (t, e) refl in
+      let m : i ≡ suc (word_end bs) = k ∙ rw (t, e, one-more) refl in
       rw (t, m) (begun-rest n b bs e)
 ]
 

@@ -1,5 +1,6 @@
 -- The words of a script's line, and what stands after them.
-use Rattle.std.specs.Prelude.{ℕ, zero, suc, Bool, false, not, if◌then◌else◌, List, [], ◌∷◌, reverse}
+use Rattle.std.specs.Prelude.{ℕ, zero, suc, Bool, false, not, if◌then◌else◌, List, [], ◌∷◌, ◌-◌, take, drop, length}
+use Rattle.std.specs.List.{prefix_len, suffix_len}
 use Rattle.cbpf_code.specs.Text.{put_front}
 use Rattle.cbpf_code.specs.WordTokens.{is_blank}
 
@@ -23,17 +24,15 @@ after_words (suc n) (b ∷ bs) = if is_blank b then after_words (suc n) bs
 
 -- where the first blank is, or the text's end
 abbrev pub word_end : List ℕ → ℕ
-word_end [] = 0
-word_end (b ∷ bs) = if is_blank b then 0 else suc (word_end bs)
+word_end bs = prefix_len (λ b. not (is_blank b)) bs
 
 -- without the blanks at its front
 unfoldable pub trim_start : List ℕ → List ℕ
-trim_start [] = []
-trim_start (b ∷ bs) = if is_blank b then trim_start bs else (b ∷ bs)
+trim_start bs = drop (prefix_len is_blank bs) bs
 
 -- without the blanks at its end
 unfoldable pub trim_end : List ℕ → List ℕ
-trim_end bs = reverse (trim_start (reverse bs))
+trim_end bs = take (length bs - suffix_len is_blank bs) bs
 
 -- without the blanks around it
 abbrev pub trimmed : List ℕ → List ℕ
