@@ -1,8 +1,8 @@
 -- Lines of a script, and the output of those that were run.
 use Rattle.std.proofs.Common.{◌≡◌, ℕ, true, false, cond, eqb, ◌||◌, List, [], ◌∷◌, ◌++◌}
-use Rattle.std.proofs.Common.{length, take_all, Option, Some, None, Result, Ok, Err, IsTrue, ◌⊎◌, inl, inr, refl, sym}
+use Rattle.std.proofs.Common.{length, take_all, Option, Some, None, Result, Ok, Err, IsTrue, inl, inr, refl, sym}
 use Rattle.std.proofs.Common.{◌∙◌, ap, subst, append_assoc, append-nil, arith}
-use Rattle.std.specs.Prelude.{IfErr, MatchResult}
+use Rattle.std.specs.Prelude.{◌≢◌, IfErr, MatchResult}
 use Rattle.std.specs.Io.KnownBytes.{Keeps}
 use Rattle.cbpf_code.specs.Writing.{Appended, AppendedPart}
 use Rattle.cbpf_code.specs.declared.writing.WriteFault.{WriteFault}
@@ -16,7 +16,7 @@ use Rattle.cbpf_dbg.specs.View.{View, empty_view}
 use Rattle.cbpf_tool.specs.LineReader.{unread as unread_bytes, Took, TakesLine}
 use Rattle.cbpf_tool.specs.Replies.{Reply, LineReplies, own, unheld, unread}
 use Rattle.cbpf_tool.specs.Output.{Output, at_end, at_quit, at_line, HasQuit}
-use Rattle.cbpf_tool.specs.Progress.{LineRan, EachPlain, LinesRan, still, onward, Progress}
+use Rattle.cbpf_tool.specs.Progress.{LineRan, EachPlain, Progress}
 use Rattle.cbpf_tool.specs.Debugged.{Printed, Faulted, Finished}
 use Rattle.cbpf_tool.specs.declared.fault.ToolFault.{ToolFault}
 use Rattle.cbpf_tool.specs.declared.fault.ToolFault.TheVariants.{Source as RefusedSource, Read, Write, Memory}
@@ -76,34 +76,18 @@ quit-in : (ls : List (List ℕ)) (l : List ℕ) (more : List (List ℕ)) → com
 quit-in [] l more e = inl e
 quit-in (x ∷ xs) l more e = inr (quit-in xs l more e)
 
-quit-last : (ls : List (List ℕ)) (l : List ℕ) → HasQuit (ls ++ l ∷ []) → HasQuit ls ⊎ (command_of l ≡ Ok (Some command.Quit))
-quit-last [] l (inl h) = inr h
-quit-last [] l (inr h) = absurd h
-quit-last (x ∷ xs) l (inl h) = inl (inl h)
-quit-last (x ∷ xs) l (inr h) = elim (quit-last xs l h) [ inl k ↦ inl (inr k) | inr k ↦ inr k ]
+quit-push : (ls : List (List ℕ)) (l : List ℕ) → ¬ HasQuit ls → command_of l ≢ Ok (Some command.Quit)
+    → ¬ HasQuit (ls ++ l ∷ [])
+quit-push [] l n q (inl h) = q h
+quit-push [] l n q (inr h) = h
+quit-push (x ∷ xs) l n q (inl h) = n (inl h)
+quit-push (x ∷ xs) l n q (inr h) = quit-push xs l (λ k. n (inr k)) q h
 
 quit-silent : (files : Held) (m : View) (f g : ℕ) (reply : Reply) → LineReplies files m f g (Ok (Some command.Quit)) reply
     → ⊥
 quit-silent files m f g reply (own k h) = h
 quit-silent files m f g reply (unheld k u h) = u
 quit-silent files m f g reply (unread k u h) = u
-
-ran-no-quit : (files : Held) (f g : ℕ) (m n : View) (ls : List (List ℕ)) (t : List ℕ) → LinesRan files m f ls t n g
-    → HasQuit ls → ⊥
-ran-no-quit files f g m n ls t still h = h
-ran-no-quit files f g m n ls t (onward {n = k} {g = g'} {ls = ls'} {t = t'} l v r a) h = elim (quit-last ls' l h) [
-  | inl q ↦ ran-no-quit files f g' m k ls' t' r q
-  | inr e ↦ quit-silent files k g' g (v, n) (subst (λ said. LineReplies files k g' g said (v, n)) e a)
-]
-
--- what runs on after some lines
-ran-output : (files : Held) (f g h : ℕ) (m n : View) (ls : List (List ℕ)) (t : List ℕ)
-    → LinesRan files m f ls t n g → (rest : List (List ℕ)) (u : List ℕ) → Output files n g rest u h
-    → Output files m f (ls ++ rest) (t ++ u) h
-ran-output files f g h m n ls t still rest u o = o
-ran-output files f g h m n ls t (onward {n = k} {g = g'} {ls = ls'} {t = t'} l v r a) rest u o =
-    rw (append_assoc ls' (l ∷ []) rest, append_assoc t' v u)
-    (ran-output files f g' h m k ls' t' r (l ∷ rest) (v ++ u) (at_line l (v, n) a o))
 
 pub part-whole : (u v : Option (List ℕ)) (text : List ℕ) → Appended u v text → AppendedPart u v text
 part-whole u v text h = part-take u v (length text) text (rw (take_all (length text) text (omega arith)) h)
@@ -117,8 +101,7 @@ unread-nil pending (Some xs) r n e = rw n at e
 module _ {script pending : List ℕ} {left old new : Option (List ℕ)} {m : View} {f g : FileSource}
     (p : Progress script pending left old new f g m) (new' : Option (List ℕ)) (k : Keeps new new') where
   so_far : Output f.held empty_view f.failures p.done p.text g.failures
-  so_far = rw (← append-nil p.done, ← append-nil p.text)
-      (ran-output f.held f.failures g.failures g.failures empty_view m p.done p.text p.ran [] [] at_end)
+  so_far = rw (← append-nil p.done, ← append-nil p.text) (p.ran [] [] g.failures at_end)
 
   -- the lines that were run, and their output
   abbrev printed : Printed script f g
@@ -130,9 +113,6 @@ module _ {script pending : List ℕ} {left old new : Option (List ℕ)} {m : Vie
     output = so_far;
   }
 
-  no_quit : ¬ HasQuit p.done
-  no_quit = ran-no-quit f.held f.failures g.failures empty_view m p.done p.text p.ran
-
   wrote : Appended old new' p.text
   wrote = appended-kept old new new' p.text p.wrote k
 
@@ -140,7 +120,7 @@ module _ {script pending : List ℕ} {left old new : Option (List ℕ)} {m : Vie
       → TakesLine p.rest pending' left' line (Err e) → Faulted script left' old new' f g e
   line-faulted pending' line left' Read h = record {
     printed = printed;
-    no_quit = no_quit;
+    no_quit = p.no_quit;
     part = line;
     rest = h.2.rest;
     split = p.split ∙ ap (λ (r : List ℕ). unlines p.done ++ r) h.2.split;
@@ -151,7 +131,7 @@ module _ {script pending : List ℕ} {left old new : Option (List ℕ)} {m : Vie
   line-faulted pending' line left' Write h = absurd h
   line-faulted pending' line left' Memory h = record {
     printed = printed;
-    no_quit = no_quit;
+    no_quit = p.no_quit;
     goes_on = lines-some p.rest h;
     wrote = wrote;
   }
@@ -186,8 +166,7 @@ module _ {script pending : List ℕ} {left old new : Option (List ℕ)} {m : Vie
       more = more;
       text = p.text ++ (u ++ []);
       split = here ∙ sym (append_assoc p.done (line ∷ []) more);
-      output = ran-output f.held f.failures g.failures g'.failures empty_view m p.done p.text p.ran (line ∷ [])
-          (u ++ []) (at_line line (u, n) (replied u r) at_end);
+      output = p.ran (line ∷ []) (u ++ []) g'.failures (at_line line (u, n) (replied u r) at_end);
     }
 
     pub write-faulted : (left' : Option (List ℕ)) (e : WriteFault)
@@ -205,8 +184,7 @@ module _ {script pending : List ℕ} {left old new : Option (List ℕ)} {m : Vie
           more = [];
           text = p.text ++ [];
           split = here ∙ sym (append-nil (p.done ++ (line ∷ more)));
-          output = rw (← q.1) (ran-output f.held f.failures g.failures g.failures empty_view m p.done p.text p.ran
-              (line ∷ more) [] (at_quit line more q.0));
+          output = rw (← q.1) (p.ran (line ∷ more) [] g.failures (at_quit line more q.0));
         } in
         record {
           printed = all;
@@ -245,7 +223,10 @@ module _ {script pending : List ℕ} {left old new : Option (List ℕ)} {m : Vie
             files = c.0.files ∙ p.kept.files;
             is_known = c.0.is_known ∙ p.kept.is_known;
           };
-          ran = onward line r.0 p.ran (replied r.0 r.1);
+          no_quit = quit-push p.done line p.no_quit (λ e. quit-silent f.held m g.failures g'.failures (r.0, n)
+              (subst (λ said. LineReplies f.held m g.failures g'.failures said (r.0, n)) e (replied r.0 r.1)));
+          ran = λ ls t h o. rw (append_assoc p.done (line ∷ []) ls, append_assoc p.text r.0 t)
+              (p.ran (line ∷ ls) (r.0 ++ t) h (at_line line (r.0, n) (replied r.0 r.1) o));
           wrote = appended-then old new' new'' p.text r.0 wrote r.2;
         }
 
@@ -260,7 +241,8 @@ progress-start script pending left old f n e = record {
   plain = tt;
   known = rw (n, e) refl;
   kept = record { files = refl; is_known = refl };
-  ran = still;
+  no_quit = λ q. q;
+  ran = λ ls t h o. o;
   wrote = appended-nil old;
 }
 

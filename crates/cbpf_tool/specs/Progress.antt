@@ -2,7 +2,6 @@
 use Rattle.std.specs.Prelude.{◌≡◌, ◌⊎◌, ℕ, false, IsTrue, List, [], ◌∷◌, ◌++◌, Option, Some, Result, Ok, Err}
 use Rattle.cbpf_code.specs.Writing.{Appended, AppendedPart}
 use Rattle.cbpf_code.specs.declared.writing.WriteFault.{WriteFault}
-use Rattle.cbpf_tool.specs.Commands.{command_of}
 use Rattle.cbpf_tool.specs.declared.command.Command.{Command}
 use Rattle.cbpf_tool.specs.declared.command.Command.TheVariants as command
 use Rattle.cbpf_reply.specs.declared.errors.CommandFault.{CommandFault}
@@ -10,6 +9,7 @@ use Rattle.cbpf_tool.specs.FileMap.{Held, FileSource}
 use Rattle.cbpf_tool.specs.Lines.{has_newline, unlines}
 use Rattle.cbpf_dbg.specs.View.{View, empty_view}
 use Rattle.cbpf_tool.specs.LineReader.{unread}
+use Rattle.cbpf_tool.specs.Output.{Output, HasQuit}
 use Rattle.cbpf_tool.specs.Replies.{Reply, LineReplies, CanRunOut}
 use Rattle.cbpf_tool.specs.SessionReplies.{reply_to}
 use Rattle.cbpf_tool.specs.declared.command.SessionCommand.{SessionCommand}
@@ -61,13 +61,6 @@ abbrev pub EachPlain : List (List ℕ) → Type 0
 EachPlain [] = Unit {0}
 EachPlain (l ∷ ls) = (has_newline l ≡ false) × EachPlain ls
 
--- the replies to lines of which none is `quit`
-pub data LinesRan (files : Held) : View → ℕ → List (List ℕ) → List ℕ → View → ℕ → Type 0 where
-  still : {m : View} {f : ℕ} → LinesRan files m f [] [] m f
-  onward : {m n p : View} {f g h : ℕ} {ls : List (List ℕ)} {t : List ℕ} (l u : List ℕ) → LinesRan files m f ls t n g
-      → LineReplies files n g h (command_of l) (u, p)
-      → LinesRan files m f (ls ++ l ∷ []) (t ++ u) p h
-
 -- the first lines of a script were run from a debugger that has loaded nothing, and none of them is `quit`: `text` is
 -- their replies, which were written, and the view is now `m`
 pub record Progress (script pending : List ℕ) (left old new : Option (List ℕ)) (f g : FileSource) (m : View) :
@@ -80,5 +73,8 @@ pub record Progress (script pending : List ℕ) (left old new : Option (List ℕ
   -- what was read and not yet taken, and what the reader has left
   pub known : unread pending left ≡ Some rest
   pub kept : Kept f g
-  pub ran : LinesRan f.held empty_view f.failures done text m g.failures
+  pub no_quit : ¬ HasQuit done
+  -- the output of more lines comes after the text
+  pub ran : (ls : List (List ℕ)) (t : List ℕ) (h : ℕ) → Output f.held m g.failures ls t h
+      → Output f.held empty_view f.failures (done ++ ls) (text ++ t) h
   pub wrote : Appended old new text
