@@ -25,10 +25,6 @@ IsReadingFault Read = Unit {0}
 IsReadingFault Memory = Unit {0}
 IsReadingFault Write = ⊥
 
--- the source was assembled, and its instructions were written
-abbrev pub WroteWhole : List ℕ → Form → Option (List ℕ) → Option (List ℕ) → Type 0
-WroteWhole source form old new = (list : List Insn) × Assembles source list × Appended old new (form_text form list)
-
 -- after a refused source nothing was written, nor after a read that failed or out of memory.
 -- After a write that failed a beginning of the text was
 abbrev pub Failed : List ℕ → Form → Option (List ℕ) → Option (List ℕ) → ToolFault → Type 0
@@ -40,5 +36,6 @@ Failed source form old new Write =
 
 -- an answer of the assembler over a source
 unfoldable pub Assembled : List ℕ → Form → Option (List ℕ) → Option (List ℕ) → Result (Unit {0}) ToolFault → Type 0
-Assembled source form old new (Ok x) = WroteWhole source form old new
+Assembled source form old new (Ok x) =
+    (list : List Insn) × Assembles source list × Appended old new (form_text form list)
 Assembled source form old new (Err e) = Failed source form old new e

@@ -1,7 +1,7 @@
 -- The debugger's commands, and how lines spell them (kernel documentation, networking/filter, on `bpf_dbg`, of commands
 -- that it has; the rest is this project's own).
 use Rattle.std.specs.Prelude.{ℕ, ◌-◌, ◌^◌, pos, if◌then◌else◌, List, [], ◌∷◌, Option, Some, None, option_map}
-use Rattle.std.specs.Prelude.{Result, Ok, Err, codes, bytes_eq}
+use Rattle.std.specs.Prelude.{option_and_then, Result, Ok, Err, codes, bytes_eq}
 use Rattle.std.specs.Map.{lookup}
 use Rattle.std.specs.Str.{is_utf8}
 use Rattle.cbpf_code.specs.Extension.{ext_named}
@@ -42,10 +42,6 @@ run_by _ = None
 abbrev pub condition : List ℕ → ℕ → Option When
 condition r v = if bytes_eq r (codes "a") then Some (A v) else (if bytes_eq r (codes "x") then Some (X v) else None)
 
-abbrev pub condition_by : List ℕ → Option ℕ → Option When
-condition_by r None = None
-condition_by r (Some v) = condition r v
-
 -- an instruction's number of 64 bits, and a register's value of 32
 abbrev pub breakpoint_by : List (List ℕ) → Option Command
 breakpoint_by [] = Some (Session Breakpoints)
@@ -53,7 +49,7 @@ breakpoint_by (w ∷ []) =
     if bytes_eq w (codes "reset") then Some (Session ResetBreakpoints)
     else option_map (λ n. Session (Breakpoint n Always)) (number_up_to (2 ^ 64 - 1) w)
 breakpoint_by (n ∷ r ∷ v ∷ []) = by_both (λ i when. Session (Breakpoint i when)) (number_up_to (2 ^ 64 - 1) n)
-    (condition_by r (number_up_to (2 ^ 32 - 1) v))
+    (option_and_then (condition r) (number_up_to (2 ^ 32 - 1) v))
 breakpoint_by _ = None
 
 abbrev pub delete_by : List (List ℕ) → Option Command

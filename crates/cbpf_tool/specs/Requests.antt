@@ -59,13 +59,9 @@ extension_value word =
     option_and_then (λ ends. by_both (λ e n. (e, n)) (ext_named ends.0) (number_up_to (2 ^ 32 - 1) ends.1))
     (split_once 61 word)
 
--- a given value, where the extension takes one
-abbrev pub where_taken : Ext × ℕ → Option (Ext × ℕ)
-where_taken v = if takes_value v.0 then Some v else None
-
 -- an extension that takes a value, and its value
 abbrev pub value_in : List ℕ → Option (Ext × ℕ)
-value_in word = option_and_then where_taken (extension_value word)
+value_in word = option_and_then (λ v. if takes_value v.0 then Some v else None) (extension_value word)
 
 abbrev pub with_given : Values → Option (Ext × ℕ) → Values
 with_given values None = values

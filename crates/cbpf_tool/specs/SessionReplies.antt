@@ -6,7 +6,6 @@ use Rattle.cbpf_code.specs.Listing.{listing}
 use Rattle.cbpf_dbg.specs.Commands as session
 use Rattle.cbpf_dbg.specs.Commands.{Answer, without_breakpoints}
 use Rattle.cbpf_dbg.specs.View.{View}
-use Rattle.cbpf_reply.specs.declared.reply.Place.{Place}
 use Rattle.cbpf_reply.specs.declared.reply.SessionFault.{SessionFault}
 use Rattle.cbpf_reply.specs.Breakpoints.{breakpoints_text, set_in}
 use Rattle.cbpf_reply.specs.CDump.{c_dump_text}
@@ -40,9 +39,6 @@ abbrev pub listing_text : Option (List Insn) → List ℕ
 listing_text None = no_program_text
 listing_text (Some list) = listing list
 
-abbrev pub before_packet : ℕ → Place
-before_packet n = record { packet = n; step = 0 }
-
 -- the reply to a command in a view, and the view after it
 abbrev pub reply_to : SessionCommand → View → List ℕ × View
 reply_to (Run limit) m = reply_and_view run_text m (session.run m limit)
@@ -53,7 +49,7 @@ reply_to Breakpoints m = (breakpoints_text m.breakpoints, m)
 reply_to ResetBreakpoints m = (breakpoints_text [], without_breakpoints m)
 reply_to (Delete n) m = reply_and_view (λ was v. breakpoints_text v.breakpoints) m (session.delete m n)
 reply_to (Step n) m = reply_and_view run_text m (session.step m n)
-reply_to (Select n) m = reply_and_view (λ u v. at_text (before_packet n)) m (session.select m n)
+reply_to (Select n) m = reply_and_view (λ u v. at_text (record { packet = n; step = 0 })) m (session.select m n)
 reply_to Mark m = (reply_text place_text (session.mark m), m)
 reply_to (Resume place) m = reply_and_view (λ u v. at_text place) m (session.resume m place)
 reply_to Stops m = (reply_text stops_text (session.stops m), m)
