@@ -1,11 +1,10 @@
 -- The words of `why`, one after another.
-use Rattle.std.proofs.Common.{◌≡◌, ℕ, ◌+◌, ◌-◌, ◌<◌, ◌≤◌, Bool, true, false, List, [], ◌∷◌, ◌++◌, map, fold, length}
+use Rattle.std.proofs.Common.{◌≡◌, ℕ, ◌+◌, ◌-◌, ◌<◌, ◌≤◌, Bool, true, false, List, [], ◌∷◌, ◌++◌, map, length}
 use Rattle.std.proofs.Common.{take, drop, get_or}
-use Rattle.std.proofs.Common.{Option, Some, None, refl, sym, ap, ◌∙◌, arith, length-drop, drop-cons, take_all, Global}
+use Rattle.std.proofs.Common.{Option, Some, None, refl, sym, ap, ◌∙◌, arith, length-drop, take_all, Global}
 use Rattle.std.specs.Prelude.{find, is_some, is_none, String}
-use Rattle.std.specs.Option.{option_or}
 use Rattle.std.specs.List.{filter_map}
-use Rattle.std.proofs.lemmas.List.{take-append-drop, map_more, take-map, get_or-map, map-append}
+use Rattle.std.proofs.lemmas.List.{take-append-drop, map_more, map-append}
 use Rattle.std.proofs.lemmas.List.Folds.{find-append}
 use Rattle.std.proofs.lemmas.List.Sums.{fold-append}
 use Rattle.std.proofs.lemmas.List.Elements.{filter_map-append}
@@ -24,7 +23,7 @@ use Rattle.cbpf_command_line.proofs.Requests.{fault-first}
 use Rattle.cbpf_why.specs.Chosen.{AreSorted}
 use Rattle.cbpf_tool.specs.Requests.{line_faults, why_faults}
 use Rattle.std.specs.Prelude.{if◌then◌else◌}
-use Rattle.cbpf_tool.specs.Requests.{value_in, with_given, values_by, packet_range, no_value, no_packets}
+use Rattle.cbpf_tool.specs.Requests.{value_in, with_given, values_by, packet_range}
 
 -- the whole rest of a word
 pub rest : (s : List ℕ) (n : ℕ) → take (length s - n) (drop n s) ≡ drop n s

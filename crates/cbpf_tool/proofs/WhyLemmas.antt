@@ -1,23 +1,20 @@
 -- What `why` did on its machine.
 use Rattle.std.proofs.Common.{◌≡◌, ℕ, List, [], ◌∷◌, Option, Some, None, Result, Ok, Err, inl, inr, refl}
-use Rattle.std.specs.Prelude.{IsSomeAnd, string_bytes}
+use Rattle.std.specs.Prelude.{IsSomeAnd}
 use Rattle.std.specs.FinMap as map
 use Rattle.cbpf_code.specs.declared.insn.Insn.{Insn}
-use Rattle.cbpf_machine.specs.Machine.{Machine}
 use Rattle.pcap_classic.specs.Reading.{IsOpenFault}
-use Rattle.pcap_classic.specs.Savefile.{Savefile, IsSavefile}
+use Rattle.pcap_classic.specs.Savefile.{Savefile}
 use Rattle.pcap_classic.specs.declared.reading.OpenFault.{OpenFault}
 use Rattle.pcap_classic.specs.declared.reading.OpenFault.TheVariants.{Header, Read as ReadAt}
 use Rattle.pcap_classic.specs.declared.reading.ReadFault.TheVariants as read_fault
 use Rattle.cbpf_why.specs.Reports.{Reported}
-use Rattle.cbpf_why.specs.declared.chosen.PacketRange.{PacketRange}
 use Rattle.cbpf_why.specs.declared.job.CaptureEnd.{CaptureEnd}
 use Rattle.cbpf_why.specs.declared.job.WhyFault.{WhyFault}
 use Rattle.cbpf_why.specs.declared.job.WhyFault.TheVariants.{Read, Write, Memory}
-use Rattle.cbpf_why.specs.declared.report.Report.{Report}
 use Rattle.cbpf_tool.specs.Hosted.{Hosted, IsReady, and_then, without_output, opened, printed}
-use Rattle.cbpf_tool.specs.WhyJobs.{Query, PrintsReport, prints, IsReported, ReportsOn, unread, no_capture, a_capture}
-use Rattle.cbpf_tool.specs.WhyJobs.{IsOpenFailure, OpensFilter, NotOpened}
+use Rattle.cbpf_tool.specs.WhyJobs.{Query, PrintsReport, prints, IsReported, ReportsOn, unread, no_capture}
+use Rattle.cbpf_tool.specs.WhyJobs.{IsOpenFailure, OpensFilter}
 use Rattle.cbpf_tool.specs.declared.remarks.Remarks.{Remarks}
 use Rattle.cbpf_tool.specs.declared.why_failure.WhyFailure.{WhyFailure}
 use Rattle.cbpf_tool.proofs.HostLemmas.{appended-some, part-some}

@@ -1,6 +1,6 @@
 -- Before which commands a script's replies go out: those that may take long (this project's own). No public clause
 -- names it.
-use Rattle.std.specs.Prelude.{ℕ, Bool, true, false, nat_le, unsigned_abs, Option, Some, None, Result, Ok, Err}
+use Rattle.std.specs.Prelude.{Bool, true, false, nat_le, unsigned_abs, Option, Some, None, Result, Ok, Err}
 use Rattle.cbpf_reply.specs.declared.errors.CommandFault.{CommandFault}
 use Rattle.cbpf_tool.specs.declared.command.Command.{Command}
 use Rattle.cbpf_tool.specs.declared.command.Command.TheVariants.{LoadWords, LoadCapture, Session, Quit}

@@ -1,6 +1,6 @@
 -- What a command line asks for, with `why`: which packets, which values and which report (this project's own).
 use Rattle.std.specs.Prelude.{◌≡◌, ℕ, ◌+◌, ◌-◌, ◌^◌, ◌==◌, nat_le, nat_lt, Bool, true, false, if◌then◌else◌, List, []}
-use Rattle.std.specs.Prelude.{◌∷◌, ◌++◌, map, fold}
+use Rattle.std.specs.Prelude.{◌++◌, fold}
 use Rattle.std.specs.Prelude.{length, take, drop, position, find, codes, string_bytes, IsPermutation}
 use Rattle.std.specs.Prelude.{Option, Some, None, is_none, option_map, option_and_then}
 use Rattle.std.specs.List.{filter_map}

@@ -20,7 +20,6 @@ use Rattle.cbpf_why.specs.declared.job.WhyFault.{WhyFault}
 use Rattle.cbpf_why.specs.declared.job.WhyFault.TheVariants as why_fault
 use Rattle.cbpf_why.specs.declared.report.Report.{Report}
 use Rattle.cbpf_tool.specs.Hosted.{Hosted, and_then, without_input, without_output, opened, not_opened, printed}
-use Rattle.cbpf_tool.specs.declared.failure.Failure.{Failure}
 use Rattle.cbpf_tool.specs.declared.failure.Failure.TheVariants.{Tool, CannotOpen}
 use Rattle.cbpf_tool.specs.declared.fault.ToolFault.{ToolFault}
 use Rattle.cbpf_tool.specs.declared.fault.ToolFault.TheVariants.{Read, Write, Memory}
