@@ -18,14 +18,14 @@ fn prefix_of(n: u32) -> &'static [u8]
 /// Puts a number in decimal, right in two places.
 #[inline(always)]
 #[tactic(auto, using(crate::proofs::DigitLemmas::one_or_more_digits))]
-fn put_padded(line: &mut Line, n: u8)
+fn prepend_padded(line: &mut Line, n: u8)
     requires room { length line.old + 11 ≤ LINE_SIZE }
     ensures text { line.new ≡ padding n ++ decimal n ++ line.old }
     ensures grown { length line.new ≤ length line.old + 11 }
 {
-    line.put_u32(u32::from(n));
+    line.prepend_u32(u32::from(n));
     if n < 10 {
-        line.put(b" ");
+        line.prepend(b" ");
     }
 }
 
@@ -34,17 +34,17 @@ fn write_c_line<W: Write>(w: &mut W, insn: Insn) -> Result<(), WriteFault>
 {
     let code = u32::from(insn.code);
     let mut line = Line::new();
-    line.put(b" },\n");
-    line.put_hex(insn.k, 8);
-    line.put(prefix_of(insn.k));
-    line.put(b", ");
-    put_padded(&mut line, insn.jf);
-    line.put(b", ");
-    put_padded(&mut line, insn.jt);
-    line.put(b", ");
-    line.put_hex(code, 2);
-    line.put(prefix_of(code));
-    line.put(b"{ ");
+    line.prepend(b" },\n");
+    line.prepend_hex(insn.k, 8);
+    line.prepend(prefix_of(insn.k));
+    line.prepend(b", ");
+    prepend_padded(&mut line, insn.jf);
+    line.prepend(b", ");
+    prepend_padded(&mut line, insn.jt);
+    line.prepend(b", ");
+    line.prepend_hex(code, 2);
+    line.prepend(prefix_of(code));
+    line.prepend(b"{ ");
     line.write(w)
 }
 

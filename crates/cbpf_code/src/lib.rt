@@ -27,7 +27,7 @@ pub use extension::{Ext, FIRST_EXTENSION, ext_at, ext_name, ext_named, ext_offse
 pub use form::Form;
 pub use insn::Insn;
 pub use law::each_has_answer;
-pub use listing::{put_line, write_line, write_lines};
+pub use listing::{prepend_line, write_line, write_lines};
 pub use message::Message;
 pub use opcode::{AluOp, Cond, Op, Size, Src, code_of, op_of, op_of_byte};
 pub use program::Program;

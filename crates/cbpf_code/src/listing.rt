@@ -22,84 +22,84 @@ use std::io::Write;
 
 /// Puts a number between two texts.
 #[inline(always)]
-fn put_between(line: &mut Line, before: &[u8], n: u64, after: &[u8])
+fn prepend_between(line: &mut Line, before: &[u8], n: u64, after: &[u8])
     requires short { (length before.now ≤ 8) × (length after.now ≤ 8) }
     requires room { length line.old + 36 ≤ LINE_SIZE }
     ensures text { line.new ≡ with_number before.now n after.now ++ line.old }
     ensures grown { length line.new ≤ length line.old + 36 }
 {
-    line.put(after);
-    line.put_u64(n);
-    line.put(before);
+    line.prepend(after);
+    line.prepend_u64(n);
+    line.prepend(before);
 }
 
 /// Puts both targets of the conditional jump at an index.
 #[inline(always)]
-fn put_targets(line: &mut Line, i: u32, insn: Insn)
+fn prepend_targets(line: &mut Line, i: u32, insn: Insn)
     requires room { length line.old + 46 ≤ LINE_SIZE }
     ensures text { line.new ≡ spec.targets i insn ++ line.old }
     ensures grown { length line.new ≤ length line.old + 46 }
 {
     let next = u64::from(i) + 1;
-    line.put_u64(next + u64::from(insn.jf));
-    line.put(b", l");
-    line.put_u64(next + u64::from(insn.jt));
-    line.put(b", l");
+    line.prepend_u64(next + u64::from(insn.jf));
+    line.prepend(b", l");
+    line.prepend_u64(next + u64::from(insn.jt));
+    line.prepend(b", l");
 }
 
 /// Puts what stands after the mnemonic of the instruction at an index, of this operation.
 #[inline(always)]
 #[tactic(auto, using(crate::proofs::NameLemmas::names))]
-fn put_operand(line: &mut Line, i: u32, insn: Insn, op: Op)
+fn prepend_operand(line: &mut Line, i: u32, insn: Insn, op: Op)
     requires room { length line.old + 60 ≤ LINE_SIZE }
     ensures text { line.new ≡ spec.operand_text (syntax.operand_of op) i insn ++ line.old }
     ensures grown { length line.new ≤ length line.old + 60 }
 {
     // Targets stand last, so they are put first.
     if let Op::Jump(_, _) = op {
-        put_targets(line, i, insn);
+        prepend_targets(line, i, insn);
     }
     match op {
         Op::Neg | Op::Tax | Op::Txa => {}
-        Op::Alu(_, Src::X) | Op::Jump(_, Src::X) => line.put(b" x"),
-        Op::RetA => line.put(b" a"),
-        Op::LdLen | Op::LdxLen => line.put(b" len"),
+        Op::Alu(_, Src::X) | Op::Jump(_, Src::X) => line.prepend(b" x"),
+        Op::RetA => line.prepend(b" a"),
+        Op::LdLen | Op::LdxLen => line.prepend(b" len"),
         Op::LdImm | Op::LdxImm | Op::Alu(_, Src::K) | Op::Jump(_, Src::K) | Op::RetK => {
             if insn.k == 0 {
-                line.put(b" #0");
+                line.prepend(b" #0");
             } else {
-                line.put_hex(insn.k, 1);
-                line.put(b" #0x");
+                line.prepend_hex(insn.k, 1);
+                line.prepend(b" #0x");
             }
         }
         Op::LdAbs(_) => match ext_at(insn.k) {
             Some(e) => {
-                line.put(ext_name(e).as_bytes());
-                line.put(b" ");
+                line.prepend(ext_name(e).as_bytes());
+                line.prepend(b" ");
             }
-            None => put_between(line, b" [", u64::from(insn.k), b"]"),
+            None => prepend_between(line, b" [", u64::from(insn.k), b"]"),
         },
-        Op::LdInd(_) => put_between(line, b" [x + ", u64::from(insn.k), b"]"),
+        Op::LdInd(_) => prepend_between(line, b" [x + ", u64::from(insn.k), b"]"),
         Op::LdMem | Op::LdxMem | Op::St | Op::Stx => {
-            put_between(line, b" M[", u64::from(insn.k), b"]");
+            prepend_between(line, b" M[", u64::from(insn.k), b"]");
         }
-        Op::LdxMsh => put_between(line, b" 4*([", u64::from(insn.k), b"]&0xf)"),
-        Op::Ja => put_between(line, b" l", u64::from(i) + 1 + u64::from(insn.k), b""),
+        Op::LdxMsh => prepend_between(line, b" 4*([", u64::from(insn.k), b"]&0xf)"),
+        Op::Ja => prepend_between(line, b" l", u64::from(i) + 1 + u64::from(insn.k), b""),
     }
 }
 
 /// Puts the line of an instruction of this operation at an index.
 #[inline(always)]
-pub(crate) fn put_operation(line: &mut Line, i: u32, insn: Insn, op: Op)
+pub(crate) fn prepend_operation(line: &mut Line, i: u32, insn: Insn, op: Op)
     requires room { length line.old + 77 ≤ LINE_SIZE }
     ensures text { line.new ≡ spec.operation_text i insn op ++ line.old }
     ensures grown { length line.new ≤ length line.old + 77 }
 {
-    put_operand(line, i, insn, op);
-    line.put(mnemonic_of(op));
-    line.put(b":\t");
-    line.put_u32(i);
-    line.put(b"l");
+    prepend_operand(line, i, insn, op);
+    line.prepend(mnemonic_of(op));
+    line.prepend(b":\t");
+    line.prepend_u32(i);
+    line.prepend(b"l");
 }
 
 /// Puts the line of the instruction at index `i`, without a newline, of at most 77 bytes, before
@@ -108,7 +108,7 @@ pub(crate) fn put_operation(line: &mut Line, i: u32, insn: Insn, op: Op)
 /// `i` must be less than the program's length, and the line must have room for 77 bytes.
 #[inline(always)]
 #[tactic(auto, using(crate::proofs::SoundLemmas::sound_known))]
-pub fn put_line<A: Allocator>(line: &mut Line, p: &Program<A>, i: u32)
+pub fn prepend_line<A: Allocator>(line: &mut Line, p: &Program<A>, i: u32)
     requires within { i < length p.now }
     requires room { length line.old + 77 ≤ LINE_SIZE }
     ensures text { line.new ≡ spec.line_text p.now i ++ line.old }
@@ -116,7 +116,7 @@ pub fn put_line<A: Allocator>(line: &mut Line, p: &Program<A>, i: u32)
 {
     let insn = p.at_index(i);
     match op_of(insn.code) {
-        Some(op) => put_operation(line, i, insn, op),
+        Some(op) => prepend_operation(line, i, insn, op),
         None => unreachable!(),
     }
 }
@@ -135,7 +135,7 @@ pub fn write_line<W: Write, A: Allocator>(
     ensures { Wrote (W.contents w.old) (W.contents w.new) result (spec.line_text p.now i) }
 {
     let mut line = Line::new();
-    put_line(&mut line, p, i);
+    prepend_line(&mut line, p, i);
     line.write(w)
 }
 
@@ -146,8 +146,8 @@ pub fn write_lines<W: Write, A: Allocator>(w: &mut W, p: &Program<A>) -> Result<
 {
     for i in 0..p.len() {
         let mut line = Line::new();
-        line.put(b"\n");
-        put_line(&mut line, p, i);
+        line.prepend(b"\n");
+        prepend_line(&mut line, p, i);
         line.write(w)?;
     }
     Ok(())

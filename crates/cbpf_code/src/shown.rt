@@ -4,7 +4,7 @@ ghost use Rattle.std.specs.Str.{IsUtf8};
 ghost use Rattle.std.specs.Fmt.{WritesOnOk};
 
 use crate::insn::Insn;
-use crate::listing::{put_line, put_operation};
+use crate::listing::{prepend_line, prepend_operation};
 use crate::opcode::op_of;
 use crate::program::Program;
 use crate::writing::Line;
@@ -34,7 +34,7 @@ impl fmt::Display for Insn {
         match op_of(self.code) {
             Some(op) => {
                 let mut line = Line::new();
-                put_operation(&mut line, 0, *self, op);
+                prepend_operation(&mut line, 0, *self, op);
                 show_line(&line, f)
             }
             None => write!(f, "{} {} {} {}", self.code, self.jt, self.jf, self.k),
@@ -52,8 +52,8 @@ impl<A: Allocator> fmt::Display for Program<A> {
     fn fmt<W: fmt::Write>(&self, f: &mut fmt::Formatter<W>) -> fmt::Result {
         for i in 0..self.len() {
             let mut line = Line::new();
-            line.put(b"\n");
-            put_line(&mut line, self, i);
+            line.prepend(b"\n");
+            prepend_line(&mut line, self, i);
             show_line(&line, f)?;
         }
         Ok(())

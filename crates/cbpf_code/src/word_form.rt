@@ -19,7 +19,7 @@ const LINES: usize = 64;
 
 /// Writes a number and the byte after it before the place `end`, and returns where it begins.
 #[inline(always)]
-fn put_number(text: &mut [u8], end: usize, number: u64, after: u8) -> usize
+fn prepend_number(text: &mut [u8], end: usize, number: u64, after: u8) -> usize
     requires room { length (decimal number) < end }
     requires within { end ≤ length text.old }
     ensures begin { result + length (decimal number) + 1 ≡ end }
@@ -33,20 +33,20 @@ fn put_number(text: &mut [u8], end: usize, number: u64, after: u8) -> usize
 // The line is made from its end, where its size isn't known yet.
 #[inline(always)]
 #[tactic(auto, using(crate::proofs::DigitLemmas::few_digits))]
-fn put_word_line(text: &mut [u8], end: usize, insn: Insn) -> usize
+fn prepend_word_line(text: &mut [u8], end: usize, insn: Insn) -> usize
     requires room { LONGEST_LINE ≤ end }
     requires within { end ≤ length text.old }
     ensures begin { (end ≤ result + LONGEST_LINE) × (result ≤ end) }
     ensures bytes { drop result text.new ≡ word_line insn ++ drop end text.old }
 {
-    let at = put_number(text, end, insn.k as u64, b',');
-    let at = put_number(text, at, insn.jf as u64, b' ');
-    let at = put_number(text, at, insn.jt as u64, b' ');
-    put_number(text, at, insn.code as u64, b' ')
+    let at = prepend_number(text, end, insn.k as u64, b',');
+    let at = prepend_number(text, at, insn.jf as u64, b' ');
+    let at = prepend_number(text, at, insn.jt as u64, b' ');
+    prepend_number(text, at, insn.code as u64, b' ')
 }
 
 /// Writes the lines of at most `LINES` instructions to the end of a text, and returns where they begin.
-fn put_word_lines(text: &mut [u8; LINES * LONGEST_LINE], list: &[Insn]) -> usize
+fn prepend_word_lines(text: &mut [u8; LINES * LONGEST_LINE], list: &[Insn]) -> usize
     requires few { length list.now ≤ LINES }
     ensures begin { result ≤ LINES * LONGEST_LINE }
     ensures bytes { drop result text.new ≡ flat_map word_line list.now }
@@ -55,7 +55,7 @@ fn put_word_lines(text: &mut [u8; LINES * LONGEST_LINE], list: &[Insn]) -> usize
     let mut i = list.len();
     while i > 0 {
         i -= 1;
-        at = put_word_line(text, at, list[i]);
+        at = prepend_word_line(text, at, list[i]);
     }
     at
 }
@@ -68,7 +68,7 @@ fn write_word_lines<W: Write>(w: &mut W, list: &[Insn]) -> Result<(), WriteFault
     let mut i = 0;
     while i < list.len() {
         let end = (i + LINES).min(list.len());
-        let at = put_word_lines(&mut text, &list[i..end]);
+        let at = prepend_word_lines(&mut text, &list[i..end]);
         write_bytes(w, &text[at..])?;
         i = end;
     }

@@ -102,7 +102,7 @@ pub fn write_hex<W: Write>(w: &mut W, n: u32, least: u32) -> Result<(), WriteFau
     ensures { Wrote (W.contents w.old) (W.contents w.new) result (hex least n) }
 {
     let mut line = Line::new();
-    line.put_hex(n, least);
+    line.prepend_hex(n, least);
     line.write(w)
 }
 
@@ -142,7 +142,7 @@ impl Line {
 
     /// Puts a text.
     #[inline(always)]
-    pub fn put(&mut self, text: &[u8])
+    pub fn prepend(&mut self, text: &[u8])
         requires { length self.old + length text.now ≤ LINE_SIZE }
         ensures text { self.new ≡ text.now ++ self.old }
         ensures grown { length self.new ≡ length self.old + length text.now }
@@ -155,7 +155,7 @@ impl Line {
 
     /// Puts a number of 64 bits in decimal, which takes at most 20 places.
     #[inline(always)]
-    pub fn put_u64(&mut self, n: u64)
+    pub fn prepend_u64(&mut self, n: u64)
         requires { length self.old + 20 ≤ LINE_SIZE }
         ensures text { self.new ≡ decimal n ++ self.old }
         ensures grown { length self.new ≤ length self.old + 20 }
@@ -165,7 +165,7 @@ impl Line {
 
     /// Puts a number of 32 bits in decimal, which takes at most 10 places.
     #[inline(always)]
-    pub fn put_u32(&mut self, n: u32)
+    pub fn prepend_u32(&mut self, n: u32)
         requires { length self.old + 10 ≤ LINE_SIZE }
         ensures text { self.new ≡ decimal n ++ self.old }
         ensures grown { length self.new ≤ length self.old + 10 }
@@ -176,31 +176,31 @@ impl Line {
     /// Puts a number in lower case hexadecimal, in at least `least` digits, of which there are at
     /// most 8.
     #[inline(always)]
-    pub fn put_hex(&mut self, n: u32, least: u32)
+    pub fn prepend_hex(&mut self, n: u32, least: u32)
         requires few { least ≤ 8 }
         requires room { length self.old + 8 ≤ LINE_SIZE }
         ensures text { self.new ≡ hex least n ++ self.old }
         ensures grown { length self.new ≤ length self.old + 8 }
     {
         let needed = n.max(1).ilog2() / 4 + 1; // four bits a digit
-        self.put_byte((n % 256) as u8);
-        self.put_byte((n / 256 % 256) as u8);
-        self.put_byte((n / 65_536 % 256) as u8);
-        self.put_byte((n / 16_777_216) as u8);
+        self.prepend_byte((n % 256) as u8);
+        self.prepend_byte((n / 256 % 256) as u8);
+        self.prepend_byte((n / 65_536 % 256) as u8);
+        self.prepend_byte((n / 16_777_216) as u8);
         self.at += 8 - needed.max(least) as usize;
     }
 
     /// Puts a byte as two hexadecimal digits, in lower case.
     #[inline(always)]
     #[tactic(auto, using(crate::proofs::HexLemmas::hex_texts))]
-    pub fn put_byte(&mut self, n: u8)
+    pub fn prepend_byte(&mut self, n: u8)
         requires { length self.old + 2 ≤ LINE_SIZE }
         ensures text { self.new ≡ hex 2 n ++ self.old }
         ensures grown { length self.new ≡ length self.old + 2 }
     {
         let digits = b"0123456789abcdef";
         let n = usize::from(n);
-        self.put(&[digits[n / 16], digits[n % 16]]);
+        self.prepend(&[digits[n / 16], digits[n % 16]]);
     }
 
     /// The text.

@@ -4,7 +4,7 @@ ghost use Rattle.std.specs.Prelude.{◌<◌, length};
 ghost use Rattle.cbpf_code.specs.Writing.{Wrote};
 ghost use Rattle.cbpf_reply.specs.Breakpoints as spec;
 
-use cbpf_code::{Line, Program, WriteFault, put_line, write_bytes};
+use cbpf_code::{Line, Program, WriteFault, prepend_line, write_bytes};
 use cbpf_machine::When;
 use std::alloc::Allocator;
 use std::io::Write;
@@ -21,20 +21,20 @@ pub fn write_breakpoint<W: Write, A: Allocator>(
     ensures { Wrote (W.contents w.old) (W.contents w.new) result (spec.set_text program.now n when) }
 {
     let mut line = Line::new();
-    line.put(b"\n");
+    line.prepend(b"\n");
     match when {
         When::Always => {}
         When::A(v) => {
-            line.put_u32(v);
-            line.put(b" when a = ");
+            line.prepend_u32(v);
+            line.prepend(b" when a = ");
         }
         When::X(v) => {
-            line.put_u32(v);
-            line.put(b" when x = ");
+            line.prepend_u32(v);
+            line.prepend(b" when x = ");
         }
     }
-    put_line(&mut line, program, n);
-    line.put(b"breakpoint at: ");
+    prepend_line(&mut line, program, n);
+    line.prepend(b"breakpoint at: ");
     line.write(w)
 }
 
@@ -46,18 +46,18 @@ pub fn write_listed<W: Write>(w: &mut W, n: u32, when: When) -> Result<(), Write
     match when {
         When::Always => {}
         When::A(v) => {
-            line.put(b")");
-            line.put_u32(v);
-            line.put(b"(a=");
+            line.prepend(b")");
+            line.prepend_u32(v);
+            line.prepend(b"(a=");
         }
         When::X(v) => {
-            line.put(b")");
-            line.put_u32(v);
-            line.put(b"(x=");
+            line.prepend(b")");
+            line.prepend_u32(v);
+            line.prepend(b"(x=");
         }
     }
-    line.put_u32(n);
-    line.put(b" ");
+    line.prepend_u32(n);
+    line.prepend(b" ");
     line.write(w)
 }
 

@@ -16,11 +16,11 @@ fn write_place_after<W: Write>(w: &mut W, before: &[u8], place: Place) -> Result
     ensures { Wrote (W.contents w.old) (W.contents w.new) result (spec.place_after before.now place) }
 {
     let mut line = Line::new();
-    line.put(b"\n");
-    line.put_u32(place.step);
-    line.put(b" ");
-    line.put_u64(place.packet);
-    line.put(before);
+    line.prepend(b"\n");
+    line.prepend_u32(place.step);
+    line.prepend(b" ");
+    line.prepend_u64(place.packet);
+    line.prepend(before);
     line.write(w)
 }
 
@@ -43,18 +43,18 @@ pub fn write_went_to<W: Write>(w: &mut W, place: Place) -> Result<(), WriteFault
 /// Puts how many packets passed and failed, and how many asked for an extension without a value.
 #[inline(always)]
 #[tactic(auto, unfolding(crate::specs::Counts::counts_text, crate::specs::Counts::known_text))]
-fn put_counts(line: &mut Line, counts: Counts)
+fn prepend_counts(line: &mut Line, counts: Counts)
     requires room { length line.old + 88 ≤ LINE_SIZE }
     ensures { line.new ≡ spec.counts_text counts ++ line.old }
 {
     if counts.unknown != 0 {
-        line.put_u64(counts.unknown);
-        line.put(b" unknown:");
+        line.prepend_u64(counts.unknown);
+        line.prepend(b" unknown:");
     }
-    line.put_u64(counts.fails);
-    line.put(b" fails:");
-    line.put_u64(counts.passes);
-    line.put(b"bpf passes:");
+    line.prepend_u64(counts.fails);
+    line.prepend(b" fails:");
+    line.prepend_u64(counts.passes);
+    line.prepend(b"bpf passes:");
 }
 
 /// Writes the counts at the end of a capture.
@@ -62,8 +62,8 @@ pub fn write_finished<W: Write>(w: &mut W, counts: Counts) -> Result<(), WriteFa
     ensures { Wrote (W.contents w.old) (W.contents w.new) result (spec.finished_text counts) }
 {
     let mut line = Line::new();
-    line.put(b"\n");
-    put_counts(&mut line, counts);
+    line.prepend(b"\n");
+    prepend_counts(&mut line, counts);
     line.write(w)
 }
 
@@ -72,9 +72,9 @@ pub fn write_limit<W: Write>(w: &mut W, counts: Counts, packet: u64) -> Result<(
     ensures { Wrote (W.contents w.old) (W.contents w.new) result (spec.limit_text counts packet) }
 {
     let mut line = Line::new();
-    line.put(b"\n");
-    line.put_u64(packet);
-    line.put(b" next:");
-    put_counts(&mut line, counts);
+    line.prepend(b"\n");
+    line.prepend_u64(packet);
+    line.prepend(b" next:");
+    prepend_counts(&mut line, counts);
     line.write(w)
 }

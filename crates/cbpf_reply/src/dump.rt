@@ -9,7 +9,7 @@ ghost use Rattle.cbpf_reply.specs.Scratch.{scratch_lines};
 use crate::packet::write_packet;
 use crate::reply::{Place, Stop, Why};
 use crate::scratch::write_run_at;
-use cbpf_code::{Line, Program, WriteFault, ext_name, put_line};
+use cbpf_code::{Line, Program, WriteFault, ext_name, prepend_line};
 use std::alloc::Allocator;
 use std::io::Write;
 
@@ -26,23 +26,23 @@ fn write_instruction<W: Write, A: Allocator>(
 {
     let insn = p.at_index(pc);
     let mut line = Line::new();
-    line.put(b"\n");
-    put_line(&mut line, p, pc);
-    line.put(b"]\ncurr:     ");
-    line.put_u32(insn.k);
-    line.put(b"] k[");
-    line.put_u32(u32::from(insn.jf));
-    line.put(b"] jf[");
-    line.put_u32(u32::from(insn.jt));
-    line.put(b"] jt[");
-    line.put_u32(u32::from(insn.code));
-    line.put(b"]\ncode:     [");
-    line.put_u32(pc);
-    line.put(b" --\n-- register dump --\npc:       [");
-    line.put_u32(place.step);
-    line.put(b", step ");
-    line.put_u64(place.packet);
-    line.put(b"-- packet ");
+    line.prepend(b"\n");
+    prepend_line(&mut line, p, pc);
+    line.prepend(b"]\ncurr:     ");
+    line.prepend_u32(insn.k);
+    line.prepend(b"] k[");
+    line.prepend_u32(u32::from(insn.jf));
+    line.prepend(b"] jf[");
+    line.prepend_u32(u32::from(insn.jt));
+    line.prepend(b"] jt[");
+    line.prepend_u32(u32::from(insn.code));
+    line.prepend(b"]\ncode:     [");
+    line.prepend_u32(pc);
+    line.prepend(b" --\n-- register dump --\npc:       [");
+    line.prepend_u32(place.step);
+    line.prepend(b", step ");
+    line.prepend_u64(place.packet);
+    line.prepend(b"-- packet ");
     line.write(w)
 }
 
@@ -53,15 +53,15 @@ fn write_registers<W: Write>(w: &mut W, a: u32, x: u32, slots: &[u32]) -> Result
         (spec.register_lines a x ++ scratch_lines slots.now) }
 {
     let mut line = Line::new();
-    line.put(b"]\n");
-    line.put_u32(x);
-    line.put(b"][");
-    line.put_hex(x, 8);
-    line.put(b"]\nX:        [");
-    line.put_u32(a);
-    line.put(b"][");
-    line.put_hex(a, 8);
-    line.put(b"A:        [");
+    line.prepend(b"]\n");
+    line.prepend_u32(x);
+    line.prepend(b"][");
+    line.prepend_hex(x, 8);
+    line.prepend(b"]\nX:        [");
+    line.prepend_u32(a);
+    line.prepend(b"][");
+    line.prepend_hex(a, 8);
+    line.prepend(b"A:        [");
     line.write(w)?;
     for i in 0..slots.len() {
         write_run_at(w, slots, i)?;
@@ -72,18 +72,18 @@ fn write_registers<W: Write>(w: &mut W, a: u32, x: u32, slots: &[u32]) -> Result
 /// Puts why it stopped.
 #[inline(always)]
 #[tactic(auto, using(cbpf_code::proofs::NameLemmas::names))]
-pub(crate) fn put_why(line: &mut Line, why: Why)
+pub(crate) fn prepend_why(line: &mut Line, why: Why)
     requires room { length line.old + 23 ≤ LINE_SIZE }
     ensures text { line.new ≡ spec.why_line why ++ line.old }
     ensures grown { length line.new ≤ length line.old + 23 }
 {
     match why {
-        Why::Break => line.put(b"(breakpoint)\n"),
-        Why::Step => line.put(b"(step)\n"),
+        Why::Break => line.prepend(b"(breakpoint)\n"),
+        Why::Step => line.prepend(b"(step)\n"),
         Why::Unknown(e) => {
-            line.put(b")\n");
-            line.put(ext_name(e).as_bytes());
-            line.put(b"(extension ");
+            line.prepend(b")\n");
+            line.prepend(ext_name(e).as_bytes());
+            line.prepend(b"(extension ");
         }
     }
 }

@@ -20,21 +20,21 @@ fn write_packets<W: Write>(w: &mut W, count: u64, ending: Ending) -> Result<(), 
     ensures { Wrote (W.contents w.old) (W.contents w.new) result (spec.packets_text count ending) }
 {
     let mut line = Line::new();
-    line.put(b"\n");
+    line.prepend(b"\n");
     match ending {
         Ending::Whole => {}
         Ending::CutHeader(place) => {
-            line.put_u64(place as u64);
-            line.put(b", cut record header at ");
+            line.prepend_u64(place as u64);
+            line.prepend(b", cut record header at ");
         }
         Ending::CutData(place) => {
-            line.put_u64(place as u64);
-            line.put(b", cut record data at ");
+            line.prepend_u64(place as u64);
+            line.prepend(b", cut record data at ");
         }
     }
-    line.put(b" packets");
-    line.put_u64(count);
-    line.put(b"pcap: ");
+    line.prepend(b" packets");
+    line.prepend_u64(count);
+    line.prepend(b"pcap: ");
     line.write(w)
 }
 

@@ -12,7 +12,7 @@ ghost use Rattle.cbpf_reply.specs.Dump.{why_line};
 ghost use Rattle.cbpf_reply.specs.declared.packet.TheConstants.{ROW};
 ghost use Rattle.cbpf_reply.specs.Packet as spec;
 
-use crate::dump::put_why;
+use crate::dump::prepend_why;
 use crate::reply::Why;
 use cbpf_code::{Line, WriteFault};
 use std::io::Write;
@@ -22,7 +22,7 @@ const ROW: usize = 16;
 
 /// Puts the bytes of a row in hexadecimal, each after a space.
 #[inline(always)]
-fn put_cells(line: &mut Line, row: &[u8])
+fn prepend_cells(line: &mut Line, row: &[u8])
     requires few { length row.now ≤ ROW }
     requires room { length line.old + 48 ≤ LINE_SIZE }
     ensures text { line.new ≡ flat_map spec.byte_text row.now ++ line.old }
@@ -31,8 +31,8 @@ fn put_cells(line: &mut Line, row: &[u8])
     let mut i = row.len();
     while i > 0 {
         i -= 1;
-        line.put_byte(row[i]);
-        line.put(b" ");
+        line.prepend_byte(row[i]);
+        line.prepend(b" ");
     }
 }
 
@@ -54,20 +54,20 @@ fn write_rows<W: Write>(
 {
     let mut line = Line::new();
     if let Some(why) = why {
-        put_why(&mut line, why);
+        prepend_why(&mut line, why);
     }
     let mut r = to;
     while r > from {
         r -= 1;
         let at = ROW * r;
         let end = bytes.len().min(at + ROW);
-        line.put(b"\n");
-        put_cells(&mut line, &bytes[at..end]);
-        line.put(b":");
+        line.prepend(b"\n");
+        prepend_cells(&mut line, &bytes[at..end]);
+        line.prepend(b":");
         let before = line.as_bytes().len();
-        line.put_u64(at as u64);
+        line.prepend_u64(at as u64);
         let digits = line.as_bytes().len() - before;
-        line.put(&b"     "[digits.min(5)..]);
+        line.prepend(&b"     "[digits.min(5)..]);
     }
     line.write(w)
 }
@@ -84,11 +84,11 @@ pub(crate) fn write_packet<W: Write>(
         (spec.packet_head (length bytes.now) wire ++ (spec.packet_rows bytes.now ++ why_line why)) }
 {
     let mut head = Line::new();
-    head.put(b"\n");
-    head.put_u32(wire);
-    head.put(b" wire: ");
-    head.put_u64(bytes.len() as u64);
-    head.put(b"-- packet dump --\nlen: ");
+    head.prepend(b"\n");
+    head.prepend_u32(wire);
+    head.prepend(b" wire: ");
+    head.prepend_u64(bytes.len() as u64);
+    head.prepend(b"-- packet dump --\nlen: ");
     head.write(w)?;
     let count = bytes.len().div_ceil(ROW);
     let mut from = 0;

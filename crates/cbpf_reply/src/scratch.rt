@@ -18,23 +18,23 @@ fn write_scratch_line<W: Write>(
     ensures { Wrote (W.contents w.old) (W.contents w.new) result (spec.scratch_line first last value) }
 {
     let mut label = Line::new();
-    label.put(b"]:");
-    label.put_u64(last as u64);
+    label.prepend(b"]:");
+    label.prepend_u64(last as u64);
     if first < last {
-        label.put(b",");
-        label.put_u64(first as u64);
+        label.prepend(b",");
+        label.prepend_u64(first as u64);
     }
-    label.put(b"M[");
+    label.prepend(b"M[");
     let label = label.as_bytes();
     let mut line = Line::new();
-    line.put(b"]\n");
-    line.put_u32(value);
-    line.put(b"][");
-    line.put_hex(value, 8);
-    line.put(b"[");
+    line.prepend(b"]\n");
+    line.prepend_u32(value);
+    line.prepend(b"][");
+    line.prepend_hex(value, 8);
+    line.prepend(b"[");
     // The label stands left in ten places.
-    line.put(&b"          "[label.len().min(10)..]);
-    line.put(label);
+    line.prepend(&b"          "[label.len().min(10)..]);
+    line.prepend(label);
     line.write(w)
 }
 

@@ -3,7 +3,7 @@
 ghost use Rattle.cbpf_code.specs.Writing.{Wrote};
 ghost use Rattle.cbpf_reply.specs.Stops as spec;
 
-use crate::dump::put_why;
+use crate::dump::prepend_why;
 use crate::reply::Stop;
 use cbpf_code::{Line, WriteFault, write_parts};
 use itoa::Buffer;
@@ -14,17 +14,17 @@ pub fn write_stop_line<W: Write>(w: &mut W, stop: &Stop) -> Result<(), WriteFaul
     ensures { Wrote (W.contents w.old) (W.contents w.new) result (spec.stop_line stop.now) }
 {
     let mut line = Line::new();
-    put_why(&mut line, stop.why);
-    line.put(b" ");
-    line.put_u32(stop.state.x());
-    line.put(b" X ");
-    line.put_u32(stop.state.a());
-    line.put(b" A ");
-    line.put_u32(stop.state.pc());
-    line.put(b" l");
-    line.put_u32(stop.place.step);
-    line.put(b" ");
-    line.put_u64(stop.place.packet);
+    prepend_why(&mut line, stop.why);
+    line.prepend(b" ");
+    line.prepend_u32(stop.state.x());
+    line.prepend(b" X ");
+    line.prepend_u32(stop.state.a());
+    line.prepend(b" A ");
+    line.prepend_u32(stop.state.pc());
+    line.prepend(b" l");
+    line.prepend_u32(stop.place.step);
+    line.prepend(b" ");
+    line.prepend_u64(stop.place.packet);
     line.write(w)
 }
 

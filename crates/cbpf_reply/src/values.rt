@@ -12,10 +12,10 @@ pub fn write_value<W: Write>(w: &mut W, e: Ext, n: u32) -> Result<(), WriteFault
     ensures { Wrote (W.contents w.old) (W.contents w.new) result (spec.value_text e n) }
 {
     let mut line = Line::new();
-    line.put(b"\n");
-    line.put_u32(n);
-    line.put(b" ");
-    line.put(ext_name(e).as_bytes());
-    line.put(b"value ");
+    line.prepend(b"\n");
+    line.prepend_u32(n);
+    line.prepend(b" ");
+    line.prepend(ext_name(e).as_bytes());
+    line.prepend(b"value ");
     line.write(w)
 }

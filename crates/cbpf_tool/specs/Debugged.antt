@@ -9,7 +9,8 @@ use Rattle.cbpf_tool.specs.declared.fault.ToolFault.{ToolFault}
 use Rattle.cbpf_tool.specs.declared.fault.ToolFault.TheVariants.{Source as RefusedSource, Read, Write, Memory}
 
 -- the first lines of a script, those after them, and the output of the first ones, from a debugger that has loaded
--- nothing; `before` and `after` are the source of files before and after these lines
+-- nothing; `before` and `after` are the source of files before and after these lines, of which the second says only how
+-- many failures were counted
 pub record Printed (script : List ℕ) (before after : FileSource) : Type 0 where
   pub ls : List (List ℕ)
   pub more : List (List ℕ)
@@ -53,7 +54,8 @@ pub record Finished (script : List ℕ) (left old new : Option (List ℕ)) (befo
   pub ended : HasQuit printed.ls ⊎ (left ≡ Some [])
   pub wrote : Appended old new printed.text
 
--- what was written of a script, what is left of it, and how the files went on, after `Ok` or a fault
+-- What was written of a script, and how many failures were counted by then, after `Ok` or a fault. It also says what the
+-- reader has left, after a failed read and after `Ok` without `quit`.
 pub record Debugged {X : Type 0} (script : List ℕ) (left old new : Option (List ℕ)) (before after : FileSource)
     (r : Result X ToolFault) : Type 0 where
   pub outcome : MatchResult r (λ _. Finished script left old new before after)

@@ -90,14 +90,14 @@ fn write_lacking<W: Write>(w: &mut W, range: PacketRange) -> Result<(), WriteFau
     ensures { Wrote (W.contents w.old) (W.contents w.new) result (spec.lacking_text range) }
 {
     let mut line = Line::new();
-    line.put(b"\n");
-    line.put_u64(range.last);
+    line.prepend(b"\n");
+    line.prepend_u64(range.last);
     if range.first == range.last {
-        line.put(b"no packet ");
+        line.prepend(b"no packet ");
     } else {
-        line.put(b"-");
-        line.put_u64(range.first);
-        line.put(b"no packets ");
+        line.prepend(b"-");
+        line.prepend_u64(range.first);
+        line.prepend(b"no packets ");
     }
     line.write(w)
 }

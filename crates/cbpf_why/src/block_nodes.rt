@@ -7,7 +7,7 @@ ghost use Rattle.cbpf_code.specs.declared.writing.TheConstants.{LINE_SIZE};
 ghost use Rattle.cbpf_why.specs.Graph as spec;
 
 use crate::graph::Facts;
-use cbpf_code::{Insn, Line, Op, Program, WriteFault, op_of, put_line, write_bytes};
+use cbpf_code::{Insn, Line, Op, Program, WriteFault, op_of, prepend_line, write_bytes};
 use cbpf_machine::Runs;
 use std::alloc::Allocator;
 use std::io::Write;
@@ -68,29 +68,29 @@ fn write_block_line<W: Write, P: Allocator>(
     ensures { Wrote (W.contents w.old) (W.contents w.new) result (spec.block_line p.now i count) }
 {
     let mut line = Line::new();
-    put_line(&mut line, p, i);
+    prepend_line(&mut line, p, i);
     write_counted(w, line.as_bytes(), count)?;
     write_bytes(w, b"<br align=\"left\"/>")
 }
 
 /// Puts the name of the node of a block, by its first instruction.
-pub(crate) fn put_node(line: &mut Line, block: u64)
+pub(crate) fn prepend_node(line: &mut Line, block: u64)
     requires { length line.old + 21 ≤ LINE_SIZE }
     ensures text { line.new ≡ spec.node block ++ line.old }
     ensures grown { length line.new ≤ length line.old + 21 }
 {
-    line.put_u64(block);
-    line.put(b"l");
+    line.prepend_u64(block);
+    line.prepend(b"l");
 }
 
 /// Puts the colour of what never ran.
-fn put_grey(line: &mut Line, count: u64)
+fn prepend_grey(line: &mut Line, count: u64)
     requires { length line.old + 26 ≤ LINE_SIZE }
     ensures text { line.new ≡ spec.grey_where_none count ++ line.old }
     ensures grown { length line.new ≤ length line.old + 26 }
 {
     if count == 0 {
-        line.put(b" color=grey fontcolor=grey");
+        line.prepend(b" color=grey fontcolor=grey");
     }
 }
 
@@ -107,15 +107,15 @@ fn write_edge<W: Write>(
     ensures { Wrote (W.contents w.old) (W.contents w.new) result (spec.edge from to word.now count) }
 {
     let mut line = Line::new();
-    line.put(b"]\n");
-    put_grey(&mut line, count);
-    line.put(b"\"");
-    line.put_u64(count);
-    line.put(word);
-    line.put(b" [label=\"");
-    put_node(&mut line, to);
-    line.put(b" -> ");
-    put_node(&mut line, from);
+    line.prepend(b"]\n");
+    prepend_grey(&mut line, count);
+    line.prepend(b"\"");
+    line.prepend_u64(count);
+    line.prepend(word);
+    line.prepend(b" [label=\"");
+    prepend_node(&mut line, to);
+    line.prepend(b" -> ");
+    prepend_node(&mut line, from);
     line.write(w)
 }
 
@@ -170,8 +170,8 @@ fn write_opening<W: Write>(w: &mut W, block: u32) -> Result<(), WriteFault>
     ensures { Wrote (W.contents w.old) (W.contents w.new) result (spec.block_head block) }
 {
     let mut line = Line::new();
-    line.put(b" [label=<");
-    put_node(&mut line, u64::from(block));
+    line.prepend(b" [label=<");
+    prepend_node(&mut line, u64::from(block));
     line.write(w)
 }
 
@@ -180,9 +180,9 @@ fn write_closing<W: Write>(w: &mut W, count: u64) -> Result<(), WriteFault>
     ensures { Wrote (W.contents w.old) (W.contents w.new) result (spec.block_end count) }
 {
     let mut line = Line::new();
-    line.put(b"]\n");
-    put_grey(&mut line, count);
-    line.put(b">");
+    line.prepend(b"]\n");
+    prepend_grey(&mut line, count);
+    line.prepend(b">");
     line.write(w)
 }
 

@@ -8,7 +8,7 @@ ghost use Rattle.cbpf_why.specs.Operations.{is_op_at};
 ghost use Rattle.cbpf_why.specs.Operations as operations;
 ghost use Rattle.cbpf_why.specs.Coverage as spec;
 
-use cbpf_code::{Line, Op, Program, WriteFault, op_of, put_line};
+use cbpf_code::{Line, Op, Program, WriteFault, op_of, prepend_line};
 use cbpf_machine::Runs;
 use std::alloc::Allocator;
 use std::io::Write;
@@ -31,16 +31,16 @@ fn write_coverage_line<W: Write, A: Allocator>(
     ensures { Wrote (W.contents w.old) (W.contents w.new) result (spec.coverage_line p.now i runs.executed runs.taken) }
 {
     let mut line = Line::new();
-    line.put(b"\n");
+    line.prepend(b"\n");
     if is_test(p, i) {
-        line.put_u64(runs.executed.saturating_sub(runs.taken));
-        line.put(b" false ");
-        line.put_u64(runs.taken);
-        line.put(b"\ttrue ");
+        line.prepend_u64(runs.executed.saturating_sub(runs.taken));
+        line.prepend(b" false ");
+        line.prepend_u64(runs.taken);
+        line.prepend(b"\ttrue ");
     }
-    put_line(&mut line, p, i);
-    line.put(b"\t");
-    line.put_u64(runs.executed);
+    prepend_line(&mut line, p, i);
+    line.prepend(b"\t");
+    line.prepend_u64(runs.executed);
     line.write(w)
 }
 

@@ -5,8 +5,8 @@ ghost use Rattle.cbpf_code.specs.Writing.{Wrote};
 ghost use Rattle.cbpf_code.specs.declared.writing.TheConstants.{LINE_SIZE};
 ghost use Rattle.cbpf_why.specs.Graph as spec;
 
-use crate::block_nodes::put_node;
-use crate::ended::{Ended, Verdict, put_reason_after, put_verdict};
+use crate::block_nodes::prepend_node;
+use crate::ended::{Ended, Verdict, prepend_reason_after, prepend_verdict};
 use crate::graph::Facts;
 use crate::groups::Group;
 use cbpf_code::{Line, WriteFault};
@@ -24,13 +24,13 @@ fn colour(verdict: Verdict) -> &'static [u8]
 }
 
 /// Puts the name of the node of packets that ended.
-fn put_end_node(line: &mut Line, first: Ended)
+fn prepend_end_node(line: &mut Line, first: Ended)
     requires { length line.old + 17 ≤ LINE_SIZE }
     ensures text { line.new ≡ spec.end_node first ++ line.old }
     ensures grown { length line.new ≤ length line.old + 17 }
 {
-    line.put_u32(first.pc);
-    put_verdict(line, first.verdict());
+    line.prepend_u32(first.pc);
+    prepend_verdict(line, first.verdict());
 }
 
 /// Writes the node of packets that ended at an instruction, of which this is the first, and the edge from their block.
@@ -43,19 +43,19 @@ fn write_end_edge<W: Write>(
     ensures { Wrote (W.contents w.old) (W.contents w.new) result (spec.end_edge block first count) }
 {
     let mut line = Line::new();
-    line.put(b"\"]\n");
-    line.put_u64(count);
-    line.put(b" [label=\"");
-    put_end_node(&mut line, first);
-    line.put(b" -> ");
-    put_node(&mut line, u64::from(block));
-    line.put(b"]\n");
-    line.put(colour(first.verdict()));
-    line.put(b"\" shape=oval style=filled fillcolor=");
-    put_reason_after(&mut line, first.reason);
-    put_verdict(&mut line, first.verdict());
-    line.put(b" [label=\"");
-    put_end_node(&mut line, first);
+    line.prepend(b"\"]\n");
+    line.prepend_u64(count);
+    line.prepend(b" [label=\"");
+    prepend_end_node(&mut line, first);
+    line.prepend(b" -> ");
+    prepend_node(&mut line, u64::from(block));
+    line.prepend(b"]\n");
+    line.prepend(colour(first.verdict()));
+    line.prepend(b"\" shape=oval style=filled fillcolor=");
+    prepend_reason_after(&mut line, first.reason);
+    prepend_verdict(&mut line, first.verdict());
+    line.prepend(b" [label=\"");
+    prepend_end_node(&mut line, first);
     line.write(w)
 }
 

@@ -54,12 +54,12 @@ impl Ended {
 }
 
 /// Puts the word for a verdict, of at most 7 bytes.
-pub(crate) fn put_verdict(line: &mut Line, verdict: Verdict)
+pub(crate) fn prepend_verdict(line: &mut Line, verdict: Verdict)
     requires { length line.old + 7 ≤ LINE_SIZE }
     ensures text { line.new ≡ spec.verdict_text verdict ++ line.old }
     ensures grown { length line.new ≤ length line.old + 7 }
 {
-    line.put(match verdict {
+    line.prepend(match verdict {
         Verdict::Pass => b"pass",
         Verdict::Fail => b"fail",
         Verdict::Unknown => b"unknown",
@@ -68,24 +68,24 @@ pub(crate) fn put_verdict(line: &mut Line, verdict: Verdict)
 
 /// Puts the value that was returned, or why none was, in at most 23 bytes.
 #[tactic(auto, using(cbpf_code::proofs::NameLemmas::names))]
-pub(crate) fn put_reason(line: &mut Line, end: End)
+pub(crate) fn prepend_reason(line: &mut Line, end: End)
     requires { length line.old + 23 ≤ LINE_SIZE }
     ensures text { line.new ≡ spec.reason_text end ++ line.old }
     ensures grown { length line.new ≤ length line.old + 23 }
 {
     match end {
-        End::Returned(value) => line.put_u32(value),
-        End::Outside => line.put(b"outside the packet"),
-        End::ZeroDivisor => line.put(b"division by 0"),
+        End::Returned(value) => line.prepend_u32(value),
+        End::Outside => line.prepend(b"outside the packet"),
+        End::ZeroDivisor => line.prepend(b"division by 0"),
         End::Unknown(e) => {
-            line.put(b" has no value");
-            line.put(ext_name(e).as_bytes());
+            line.prepend(b" has no value");
+            line.prepend(ext_name(e).as_bytes());
         }
     }
 }
 
 /// Puts why no value was returned, where that is so, in at most 25 bytes.
-pub(crate) fn put_reason_after(line: &mut Line, end: End)
+pub(crate) fn prepend_reason_after(line: &mut Line, end: End)
     requires { length line.old + 25 ≤ LINE_SIZE }
     ensures text { line.new ≡ spec.reason_after end ++ line.old }
     ensures grown { length line.new ≤ length line.old + 25 }
@@ -93,6 +93,6 @@ pub(crate) fn put_reason_after(line: &mut Line, end: End)
     if let End::Returned(_) = end {
         return;
     }
-    put_reason(line, end);
-    line.put(b", ");
+    prepend_reason(line, end);
+    line.prepend(b", ");
 }

@@ -7,8 +7,8 @@ ghost use Rattle.cbpf_why.specs.declared.ended.Verdict.{Verdict as AVerdict};
 ghost use Rattle.cbpf_why.specs.Ends.{verdict_of};
 ghost use Rattle.cbpf_why.specs.Groups as spec;
 
-use crate::ended::{Ended, Verdict, put_reason_after, put_verdict};
-use cbpf_code::{Line, Program, WriteFault, put_line};
+use crate::ended::{Ended, Verdict, prepend_reason_after, prepend_verdict};
+use cbpf_code::{Line, Program, WriteFault, prepend_line};
 use cbpf_reply::Counts;
 use std::alloc::{AllocError, Allocator};
 use std::io::Write;
@@ -155,15 +155,15 @@ fn write_group_line<W: Write, P: Allocator>(
     ensures { Wrote (W.contents w.old) (W.contents w.new) result (spec.group_line p.now count first) }
 {
     let mut line = Line::new();
-    line.put(b"\n");
-    line.put_u64(first.packet);
-    line.put(b", first packet ");
-    put_reason_after(&mut line, first.reason);
-    put_line(&mut line, p, first.pc);
-    line.put(b" at ");
-    line.put_u64(count);
-    line.put(b" ");
-    put_verdict(&mut line, first.verdict());
+    line.prepend(b"\n");
+    line.prepend_u64(first.packet);
+    line.prepend(b", first packet ");
+    prepend_reason_after(&mut line, first.reason);
+    prepend_line(&mut line, p, first.pc);
+    line.prepend(b" at ");
+    line.prepend_u64(count);
+    line.prepend(b" ");
+    prepend_verdict(&mut line, first.verdict());
     line.write(w)
 }
 

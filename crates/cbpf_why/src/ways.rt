@@ -11,37 +11,39 @@ ghost use Rattle.cbpf_why.specs.Operations.{is_op_at};
 ghost use Rattle.cbpf_why.specs.Operations as operations;
 ghost use Rattle.cbpf_why.specs.Ways as spec;
 
-use crate::ended::{Ended, Verdict, put_reason_after, put_verdict};
-use cbpf_code::{Line, Op, Program, WriteFault, op_of, put_line, write_bytes, write_with_number};
+use crate::ended::{Ended, Verdict, prepend_reason_after, prepend_verdict};
+use cbpf_code::{
+    Line, Op, Program, WriteFault, op_of, prepend_line, write_bytes, write_with_number,
+};
 use cbpf_machine::{Meter, Packet, State, Task, Test, Turn, Values, turn, way_of_packet};
 use pcap_classic::Captured;
 use std::alloc::Allocator;
 use std::io::Write;
 
 /// Puts a register, whose name has one byte, in decimal and in hexadecimal, in at most 25 bytes.
-fn put_register(line: &mut Line, name: &[u8], value: u32)
+fn prepend_register(line: &mut Line, name: &[u8], value: u32)
     requires name { length name.now ≤ 1 }
     requires room { length line.old + 25 ≤ LINE_SIZE }
     ensures text { line.new ≡ spec.register_text name.now value ++ line.old }
     ensures grown { length line.new ≤ length line.old + 25 }
 {
-    line.put(b")");
-    line.put_hex(value, 1);
-    line.put(b" (0x");
-    line.put_u32(value);
-    line.put(b" ");
-    line.put(name);
+    line.prepend(b")");
+    line.prepend_hex(value, 1);
+    line.prepend(b" (0x");
+    line.prepend_u32(value);
+    line.prepend(b" ");
+    line.prepend(name);
 }
 
 /// Puts A and X, in at most 51 bytes.
-fn put_registers(line: &mut Line, a: u32, x: u32)
+fn prepend_registers(line: &mut Line, a: u32, x: u32)
     requires room { length line.old + 51 ≤ LINE_SIZE }
     ensures text { line.new ≡ spec.registers_text a x ++ line.old }
     ensures grown { length line.new ≤ length line.old + 51 }
 {
-    put_register(line, b"X", x);
-    line.put(b" ");
-    put_register(line, b"A", a);
+    prepend_register(line, b"X", x);
+    line.prepend(b" ");
+    prepend_register(line, b"A", a);
 }
 
 /// Whether the instruction at index `i` is a jump.
@@ -63,16 +65,16 @@ fn write_step<W: Write, A: Allocator>(
     ensures { Wrote (W.contents w.old) (W.contents w.new) result (spec.step_line p.now s.now next.now) }
 {
     let mut line = Line::new();
-    line.put(b"\n");
+    line.prepend(b"\n");
     if let Some(next) = next {
         if is_jump(p, s.pc()) {
-            line.put_u32(next.pc());
-            line.put(b"\tto l");
+            line.prepend_u32(next.pc());
+            line.prepend(b"\tto l");
         }
     }
-    put_registers(&mut line, s.a(), s.x());
-    line.put(b"\t");
-    put_line(&mut line, p, s.pc());
+    prepend_registers(&mut line, s.a(), s.x());
+    line.prepend(b"\t");
+    prepend_line(&mut line, p, s.pc());
     line.write(w)
 }
 
@@ -124,10 +126,10 @@ fn write_test<W: Write, A: Allocator>(
     ensures { Wrote (W.contents w.old) (W.contents w.new) result (spec.test_text p.now (Some test.now)) }
 {
     let mut line = Line::new();
-    put_registers(&mut line, test.a, test.x);
-    line.put(b" with ");
-    put_line(&mut line, p, test.pc);
-    line.put(b", after ");
+    prepend_registers(&mut line, test.a, test.x);
+    line.prepend(b" with ");
+    prepend_line(&mut line, p, test.pc);
+    line.prepend(b", after ");
     line.write(w)
 }
 
@@ -141,10 +143,10 @@ fn write_ended<W: Write, A: Allocator>(
     ensures { Wrote (W.contents w.old) (W.contents w.new) result (spec.ended_text p.now ended) }
 {
     let mut line = Line::new();
-    put_reason_after(&mut line, ended.reason);
-    put_line(&mut line, p, ended.pc);
-    line.put(b" at ");
-    put_verdict(&mut line, ended.verdict());
+    prepend_reason_after(&mut line, ended.reason);
+    prepend_line(&mut line, p, ended.pc);
+    line.prepend(b" at ");
+    prepend_verdict(&mut line, ended.verdict());
     line.write(w)
 }
 

@@ -13,7 +13,7 @@ loop-i-preserved g c =
     let below : c.loop-i.i < length list = omega (arith, c.loop-i-test.true, c.len-i-end.ensures.value) in
     loop-next numbered_line (enumerate_from 0 list) c.loop-i.i (0, zero_insn) _ _ _
     (omega (arith, length-enumerate_from 0 list)) c.loop-i.invariant
-    (rw (c.put_line.ensures.text, c.put.ensures.text, c.new-line.ensures, line_at list c.loop-i.i zero_insn below)
+    (rw (c.prepend_line.ensures.text, c.prepend.ensures.text, c.new-line.ensures, line_at list c.loop-i.i zero_insn below)
     at c.in_ok-write.ensures)
 
 pub returns-in_err-write : goal.returns-in_err-write
@@ -23,7 +23,7 @@ returns-in_err-write g c =
     err-exit _ _ _ _ c.from_residual.ensures.0
     (loop-stop numbered_line (enumerate_from 0 list) c.loop-i.i (0, zero_insn) _ _ _
     (omega (arith, length-enumerate_from 0 list)) c.loop-i.invariant
-    (rw (c.put_line.ensures.text, c.put.ensures.text, c.new-line.ensures, line_at list c.loop-i.i zero_insn below)
+    (rw (c.prepend_line.ensures.text, c.prepend.ensures.text, c.new-line.ensures, line_at list c.loop-i.i zero_insn below)
     at c.in_err-write.ensures))
 
 pub returns : goal.returns

@@ -22,14 +22,14 @@ lines list i e at size text l long same =
 pub returns-in_err-write_bytes : goal.returns-in_err-write_bytes
 returns-in_err-write_bytes g c =
     let list = c.args.list.now in
-    let text = c.put_word_lines-at in
+    let text = c.prepend_word_lines-at in
     err-exit _ _ _ _ c.from_residual.ensures.0 (part-front word_line list c.min-end.result _ _
     (rw (lines list c.loop-i.i c.min-end.result _ _ _ (omega arith) text.array_long text.ensures.bytes)
     (part-then _ _ _ _ _ c.loop-i.invariant.0 (c.in_err-write_bytes.ensures {u = tt}))))
 
 pub loop-i-preserved : goal.loop-i-preserved
 loop-i-preserved g c =
-    let text = c.put_word_lines-at in (
+    let text = c.prepend_word_lines-at in (
       rw (lines c.args.list.now c.loop-i.i c.min-end.result _ _ _ (omega arith) text.array_long text.ensures.bytes)
           (appended-then _ _ _ _ _ c.loop-i.invariant.0 (c.in_ok-write_bytes.ensures {u = tt})),
       omega arith,

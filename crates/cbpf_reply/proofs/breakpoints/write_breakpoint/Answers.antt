@@ -6,4 +6,4 @@ pub returns : goal.returns
 unfolding set_head
 returns g c =
     let condition : c.match-when.line ≡ condition_text c.args.when = grind (arith, append-nil) in
-    rw (c.put-2.ensures.text, c.put_line.ensures.text, condition) at c.write.ensures
+    rw (c.prepend-2.ensures.text, c.prepend_line.ensures.text, condition) at c.write.ensures

@@ -8,6 +8,6 @@ unfolding instruction_dump
 returns g c =
     let place = c.args.place in
     let pc = c.args.pc in
-    let text : c.put-9.new.self
+    let text : c.prepend-9.new.self
     ≡ place_lines place.packet place.step pc (line_text c.args.p.now pc) (Some c.at_index-insn.result) = cc in
     rw c.at_index-insn.ensures.value (rw (text, c.at_index-insn.ensures.value) at c.write.ensures)

@@ -8,12 +8,12 @@ use Rattle.cbpf_reply.proofs.dump.write_registers.Goals as goal
 
 pub returns-in_err-write : goal.returns-in_err-write
 unfolding register_lines
-returns-in_err-write g c = let text : c.put-5.new.self ≡ register_lines c.args.a c.args.x = cc in
+returns-in_err-write g c = let text : c.prepend-5.new.self ≡ register_lines c.args.a c.args.x = cc in
     first-failed _ _ _ _ _ c.from_residual.ensures.0 (rw text at c.in_err-write.ensures)
 
 pub loop-i-init : goal.loop-i-init
 unfolding register_lines
-loop-i-init g c = let text : c.put-5.new.self ≡ register_lines c.args.a c.args.x = cc in
+loop-i-init g c = let text : c.prepend-5.new.self ≡ register_lines c.args.a c.args.x = cc in
     let all : length c.args.slots.now - 0 ≡ length c.args.slots.now = omega arith in
     rw all (left-first _ _ _ _ (rw text at c.in_ok-write.ensures))
 

@@ -8,7 +8,7 @@ use Rattle.cbpf_reply.proofs.packet.write_packet.Goals as goal
 
 pub returns-in_err-write : goal.returns-in_err-write
 returns-in_err-write g c =
-    let text : c.put-3.new.self ≡ packet_head (length c.args.bytes.now) c.args.wire = cc in
+    let text : c.prepend-3.new.self ≡ packet_head (length c.args.bytes.now) c.args.wire = cc in
     first-failed _ _ _ _ _ c.from_residual.ensures.0 (rw text at c.in_err-write.ensures)
 
 pub loop-from-preserved : goal.loop-from-preserved

@@ -6,10 +6,10 @@ use Rattle.cbpf_reply.proofs.scratch.write_scratch_line.Goals as goal
 
 pub returns : goal.returns
 returns g c =
-    let label : c.put-2.new.self ≡ slots_label c.args.first c.args.last = grind (arith, append-nil) in
-    let blanks = spaces-beside 10 (length c.put-2.new.self) c.min.result (cc) in
-    let padded : c.put-6.new.self ≡ spaces (10 - length c.put-2.new.self) ++ c.put-5.new.self =
-    rw (← blanks) c.put-6.ensures.text in
-    let text : c.put-7.new.self ≡ scratch_line c.args.first c.args.last c.args.value =
-    rw (c.put-7.ensures.text, c.as_bytes-label.ensures, padded, label) (cc) in
+    let label : c.prepend-2.new.self ≡ slots_label c.args.first c.args.last = grind (arith, append-nil) in
+    let blanks = spaces-beside 10 (length c.prepend-2.new.self) c.min.result (cc) in
+    let padded : c.prepend-6.new.self ≡ spaces (10 - length c.prepend-2.new.self) ++ c.prepend-5.new.self =
+    rw (← blanks) c.prepend-6.ensures.text in
+    let text : c.prepend-7.new.self ≡ scratch_line c.args.first c.args.last c.args.value =
+    rw (c.prepend-7.ensures.text, c.as_bytes-label.ensures, padded, label) (cc) in
     rw text at c.write.ensures

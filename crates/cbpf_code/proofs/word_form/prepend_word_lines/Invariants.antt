@@ -2,7 +2,7 @@ use Rattle.std.proofs.Common.{◌≡◌, ◌≤◌, ◌*◌, drop, length}
 use Rattle.std.specs.List.{flat_map}
 use Rattle.cbpf_code.specs.WordForm.{word_line}
 use Rattle.cbpf_code.specs.declared.word_form.TheConstants.{LINES, LONGEST_LINE}
-use Rattle.cbpf_code.proofs.word_form.put_word_lines.Given as goal
+use Rattle.cbpf_code.proofs.word_form.prepend_word_lines.Given as goal
 
 abbrev pub invariant-loop-i : goal.invariant-loop-i
 invariant-loop-i l = (LONGEST_LINE * l.i ≤ l.at) × (l.at ≤ LINES * LONGEST_LINE) × (l.i ≤ length l.list)

@@ -1,6 +1,6 @@
 use Rattle.std.proofs.Common.{length, refl, arith}
 use Rattle.std.proofs.lemmas.List.{drop_all}
-use Rattle.cbpf_code.proofs.word_form.put_word_lines.Goals as goal
+use Rattle.cbpf_code.proofs.word_form.prepend_word_lines.Goals as goal
 
 pub loop-i-init : goal.loop-i-init
 loop-i-init c =

@@ -1,7 +1,7 @@
 use Rattle.std.proofs.Common.{◌≡◌, ◌≤◌, ◌+◌, ◌*◌, ◌++◌, length, drop}
 use Rattle.std.specs.List.{flat_map}
 use Rattle.cbpf_reply.specs.Packet.{byte_text}
-use Rattle.cbpf_reply.proofs.packet.put_cells.Given as goal
+use Rattle.cbpf_reply.proofs.packet.prepend_cells.Given as goal
 
 abbrev pub invariant-loop-i : goal.invariant-loop-i
 invariant-loop-i l = record {

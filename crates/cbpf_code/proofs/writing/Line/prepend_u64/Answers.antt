@@ -1,6 +1,6 @@
 use Rattle.std.proofs.Common.{length-append, length-drop, arith}
 use Rattle.cbpf_code.proofs.DigitLemmas.{twenty_digits}
-use Rattle.cbpf_code.proofs.writing.Line.put_u64.Goals as goal
+use Rattle.cbpf_code.proofs.writing.Line.prepend_u64.Goals as goal
 
 pub write_digits-self-inside-requires : goal.write_digits-self-inside-requires
 write_digits-self-inside-requires c = grind (arith, twenty_digits, length-drop)
