@@ -16,7 +16,7 @@ use Rattle.cbpf_syntax.proofs.Readings.{classes_of, item_fits, reading_of}
 use Rattle.cbpf_syntax.proofs.Apart.{overlap, apart, overlap_sound, starts_with_comma, comma_only, comma_items}
 use Rattle.cbpf_syntax.proofs.Apart.{readings_apart}
 
--- a front, and what stands behind it
+-- a front of the tokens, and what comes after it
 front_rest : (n : ℕ) (ts us : List Lexeme) → ts ++ us ≡ take n ts ++ (drop n ts ++ us)
 front_rest n ts us = ap (λ xs. xs ++ us) (sym (take-append-drop n ts)) ∙ append_assoc (take n ts) (drop n ts) us
 
