@@ -10,7 +10,8 @@ use Rattle.cbpf_code.specs.declared.insn.Insn.{Insn}
 use Rattle.cbpf_code.specs.declared.words.WordFault.TheVariants.{NumberExpected, CountDiffers, CommaExpected}
 use Rattle.cbpf_code.specs.declared.words.WordFault.{WordFault}
 
--- the text was read up to `at`: its count, and a list with a comma after each instruction
+-- the text was read up to `at`: its count, and a list with a comma after each instruction; where the text ends there, the
+-- last comma may be missing
 abbrev pub IsRead : List ℕ → ℕ → List Insn → ℕ → Type 0
 IsRead text n list at = PassesTokens text count 0 (n ∷ fields_of list) code at
 
