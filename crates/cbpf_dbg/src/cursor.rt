@@ -175,8 +175,8 @@ fn leave_entry<A: Allocator>(
             cursor.go_on();
             Moved::Entry
         }
-        Some(outcome) => {
-            cursor.finish_packet(outcome);
+        Some(end) => {
+            cursor.finish_packet(Outcome::from(end));
             Moved::Packet
         }
     }

@@ -1,8 +1,9 @@
-use Rattle.std.proofs.Common.{◌≡◌, arith, sym, subst, ap, ◌∙◌}
+use Rattle.std.proofs.Common.{◌≡◌, None, arith, sym, subst, ap, ◌∙◌}
 use Rattle.cbpf_dbg.specs.declared.cursor.Cursor.{Cursor}
 use Rattle.cbpf_machine.specs.Turn.{turn}
 use Rattle.cbpf_machine.specs.declared.outcome.Turn.TheVariants.{Next}
-use Rattle.cbpf_machine.specs.Trace.{outcome_of}
+use Rattle.cbpf_machine.specs.Trace.{next_of, outcome_of}
+use Rattle.cbpf_machine.proofs.TraceLemmas.{ends_none}
 use Rattle.cbpf_machine.specs.Registers.{Registers}
 use Rattle.cbpf_dbg.specs.declared.cursor.Moved.TheVariants as moved
 use Rattle.cbpf_dbg.specs.Cursor.{Moves, stepped, passed}
@@ -44,15 +45,18 @@ pub returns-in-Some : goal.returns-in-Some
 returns-in-Some g c =
     let v = c.in-Some.ensures.value in
     let here : Cursor = record c.args.cursor.now { state = c.turn_in_place.new.s } in
-    let stays : here ≡ c.args.cursor.now = ap (λ (s : Registers). record c.args.cursor.now { state = s }) v.2 in
+    let none : next_of (turn (machine_in c.args.loaded.now) c.args.here.now.bytes.now c.args.here.now.wire
+    c.args.cursor.now.state) ≡ None = rw v.0 (ends_none c.in-Some.end) in
+    let stays : here ≡ c.args.cursor.now = ap (λ (s : Registers). record c.args.cursor.now { state = s }) v.1 in
     let same : c.finish_packet.new.self ≡ passed c.args.cursor.now (outcome_of
     (turn (machine_in c.args.loaded.now) c.args.here.now.bytes.now c.args.here.now.wire c.args.cursor.now.state)) =
-    c.finish_packet.ensures ∙ ap (λ w. passed w c.in-Some.outcome) stays ∙ ap (passed c.args.cursor.now) v.1 in
+    c.finish_packet.ensures ∙ ap (λ w. passed w c.from.result) stays
+    ∙ ap (passed c.args.cursor.now) (c.from.ensures ∙ ap outcome_of (sym v.0)) in
     record {
-      stands = rw same (stands-left _ _ c.args.cursor.now _ c.requires.stands c.requires.here c.requires.begun v.0);
+      stands = rw same (stands-left _ _ c.args.cursor.now _ c.requires.stands c.requires.here c.requires.begun none);
       moves =
           subst (λ n. Moves (machine_in c.args.loaded.now) (records_in c.args.loaded.now) c.args.cursor.now moved.Packet n)
-          (sym same) (moves-left _ _ c.args.cursor.now _ c.requires.stands c.requires.here c.requires.begun v.0);
+          (sym same) (moves-left _ _ c.args.cursor.now _ c.requires.stands c.requires.here c.requires.begun none);
       origin = ap (λ (n : Cursor). n.origin) same;
       turns = c.turn_in_place.ensures.spent;
     }

@@ -1,13 +1,16 @@
 use Rattle.std.proofs.Common.{◌≡◌, ◌+◌, ◌*◌, ◌<◌, ◌≤◌, ◌-◌, ◌/◌, ◌∙◌, ℕ, List, arith, sym, ap, refl, subst, length}
 use Rattle.std.proofs.Common.{length-take, take, get_or}
-use Rattle.std.specs.Prelude.{Some, None, slice_get}
+use Rattle.std.specs.Prelude.{Option, Some, None, slice_get}
 use Rattle.std.proofs.lemmas.List.{get_or-take}
 use Rattle.std.proofs.lemmas.Option.{slice_get_read, slice_get_within, get_or_from_slice_get}
 use Rattle.cbpf_machine.specs.Trail.{AreCheckpoints, Checkpoints}
 use Rattle.cbpf_machine.specs.Registers.{Registers}
-use Rattle.cbpf_machine.specs.Trace.{next_of}
-use Rattle.cbpf_machine.specs.OnPacket.{on_packet, turn_in, trace_in}
-use Rattle.cbpf_machine.proofs.TraceLemmas.{goes_from_entry, goes_next, goes_at, goes_last, next_of-none}
+use Rattle.cbpf_machine.specs.InPlace.{Makes, turn_of}
+use Rattle.cbpf_machine.specs.declared.outcome.End.{End}
+use Rattle.cbpf_machine.specs.declared.outcome.Turn.{Turn}
+use Rattle.cbpf_machine.specs.declared.outcome.Turn.TheVariants.{Next}
+use Rattle.cbpf_machine.specs.OnPacket.{on_packet, trace_in}
+use Rattle.cbpf_machine.proofs.TraceLemmas.{goes_from_entry, goes_next, goes_at, ended_last}
 use Rattle.cbpf_machine.specs.declared.mark_trail.TheConstants.{STRIDE}
 use Rattle.cbpf_machine.proofs.ListLemmas.{slice_get-take}
 use Rattle.cbpf_machine.proofs.mark_trail.MarkTrailTrail.back.Goals as goal
@@ -48,6 +51,12 @@ cut kept to items xs fewer are =
           ∙ sym (slice_get-take xs to (STRIDE * j) (omega (arith, near))))));
     }
 
+-- a turn that doesn't end the packet gives the next state
+goes_on : {turn : Turn} (old new : Registers) (end : Option End) → Makes turn old new end
+    → ((e : End) → turn ≡ turn_of e → ⊥) → turn ≡ Next new
+goes_on old new None made h = made
+goes_on old new (Some e) made h = absurd (h e made.0)
+
 pub again-init : goal.again-init
 again-init g c =
     let at = kept_at c.self.inside.kept c.self.inside.checkpoints.items
@@ -61,21 +70,19 @@ again-init g c =
       turns = omega arith;
     }
 
+-- an entry before the last has a next one
 pub again-preserved : goal.again-preserved
 again-preserved g c =
+    let long = c.requires.of_trace.long in
+    let next = goes_on _ _ c.turn_in_place-end.result c.turn_in_place-end.ensures.value (λ e made. omega (
+      arith,
+      ended_last c.again.invariant.here e made,
+      length-take c.args.self.now.count (trace_in (on_packet c.args.p.now c.args.values.now c.args.packet)),
+    )) in
     record {
-      here = goes_next c.again.invariant.here c.in-Next.next (sym c.in-Next.ensures.value);
+      here = goes_next c.again.invariant.here _ next;
       turns = omega arith;
     }
-
--- an entry before the last has a next one
-pub unreachable-requires : goal.unreachable-requires
-unreachable-requires g c =
-    let none : next_of (turn_in (on_packet c.args.p.now c.args.values.now c.args.packet) c.again.s) ≡ None =
-    rw (← c.turn.ensures.value) (next_of-none c.turn.result c.in_default.not-Next) in
-    let end = goes_last c.again.invariant.here none in
-    let long = c.requires.of_trace.long in
-    omega (arith, end, length-take c.args.self.now.count (trace_in (on_packet c.args.p.now c.args.values.now c.args.packet)))
 
 pub returns-clause-entry : goal.returns-clause-entry
 returns-clause-entry g c =
