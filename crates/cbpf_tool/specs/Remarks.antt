@@ -55,8 +55,8 @@ lacking_line name (Some range) = line_start name ++ lacking_text range
 abbrev pub ending_line : Option (List ℕ) → ℕ → Option Ending → List ℕ
 ending_line name count None = []
 ending_line name count (Some Whole) = []
-ending_line name count (Some (CutHeader place)) = line_start name ++ cut_text count (CutHeader place)
-ending_line name count (Some (CutData place)) = line_start name ++ cut_text count (CutData place)
+ending_line name count (Some (CutHeader offset)) = line_start name ++ cut_text count (CutHeader offset)
+ending_line name count (Some (CutData offset)) = line_start name ++ cut_text count (CutData offset)
 
 abbrev pub name_in : Remarks → Option (List ℕ)
 name_in r = option_map (λ n. string_bytes n) r.capture

@@ -25,14 +25,14 @@ pub extent-whole : (order : Endianness) (bytes : List ℕ) → record_length ord
 extent-whole order bytes whole = grind (arith, nat_tests)
 
 -- what the function gives, the relation says
-pub contents-hold : (most : ℕ) (order : Endianness) (n place : ℕ) (bytes : List ℕ) → length bytes ≤ most
-    → Holds order n place bytes (contents_within most order n place bytes).records
-    (contents_within most order n place bytes).ending
+pub contents-hold : (most : ℕ) (order : Endianness) (n offset : ℕ) (bytes : List ℕ) → length bytes ≤ most
+    → Holds order n offset bytes (contents_within most order n offset bytes).records
+    (contents_within most order n offset bytes).ending
 unfolding contents_within
-contents-hold zero order n place [] h = no_bytes
-contents-hold zero order n place (b ∷ bytes) h = absurd (omega arith)
-contents-hold (suc most) order n place [] h = no_bytes
-contents-hold (suc most) order n place (b ∷ rest) h =
+contents-hold zero order n offset [] h = no_bytes
+contents-hold zero order n offset (b ∷ bytes) h = absurd (omega arith)
+contents-hold (suc most) order n offset [] h = no_bytes
+contents-hold (suc most) order n offset (b ∷ rest) h =
     let bytes : List ℕ = b ∷ rest in
     elim (cases_lt (length bytes) RECORD_HEADER) [
       | inl short ↦ rw (extent-header order bytes (omega arith) short) (part_of_header bytes (omega arith) short)
@@ -47,44 +47,44 @@ contents-hold (suc most) order n place (b ∷ rest) h =
 
 -- what the relation says where so much of a record is in front
 abbrev pub HasExtent : Endianness → ℕ → ℕ → List ℕ → List Record → Ending → Extent → Type 0
-HasExtent order n place bytes rs how (WholeRecord size) = (size ≡ record_length order bytes) × (size ≤ length bytes)
-    × (rest : List Record) × (rs ≡ record_at order n place bytes ∷ rest)
-    × Holds order (n + 1) (place + size) (drop size bytes) rest how
-HasExtent order n place bytes rs how extent = (rs ≡ []) × (how ≡ ending_by extent place)
+HasExtent order n offset bytes rs how (WholeRecord size) = (size ≡ record_length order bytes) × (size ≤ length bytes)
+    × (rest : List Record) × (rs ≡ record_at order n offset bytes ∷ rest)
+    × Holds order (n + 1) (offset + size) (drop size bytes) rest how
+HasExtent order n offset bytes rs how extent = (rs ≡ []) × (how ≡ ending_by extent offset)
 
-pub has_extent : (order : Endianness) (n place : ℕ) (bytes : List ℕ) (rs : List Record) (how : Ending)
-    → Holds order n place bytes rs how → HasExtent order n place bytes rs how (extent_of order bytes)
-has_extent order n place _ _ _ no_bytes = (refl, refl)
-has_extent order n place _ _ _ (part_of_header bytes a b) = rw (extent-header order bytes a b) (refl, refl)
-has_extent order n place _ _ _ (part_of_data bytes a b) = rw (extent-data order bytes a b) (refl, refl)
-has_extent order n place _ _ _ (whole_record bytes a h) = rw (extent-whole order bytes a) (refl, a, _, refl, h)
+pub has_extent : (order : Endianness) (n offset : ℕ) (bytes : List ℕ) (rs : List Record) (how : Ending)
+    → Holds order n offset bytes rs how → HasExtent order n offset bytes rs how (extent_of order bytes)
+has_extent order n offset _ _ _ no_bytes = (refl, refl)
+has_extent order n offset _ _ _ (part_of_header bytes a b) = rw (extent-header order bytes a b) (refl, refl)
+has_extent order n offset _ _ _ (part_of_data bytes a b) = rw (extent-data order bytes a b) (refl, refl)
+has_extent order n offset _ _ _ (whole_record bytes a h) = rw (extent-whole order bytes a) (refl, a, _, refl, h)
 
 -- before the last record a whole one is in front
-pub more-whole : (order : Endianness) (n place : ℕ) (bytes : List ℕ) (rs : List Record) (how : Ending)
-    → Holds order n place bytes rs how → 0 < length rs → extent_of order bytes ≡ WholeRecord (record_length order bytes)
-more-whole order n place _ _ _ (whole_record bytes a h) some = extent-whole order bytes a
-more-whole order n place _ _ _ _ some = absurd (omega arith)
+pub more-whole : (order : Endianness) (n offset : ℕ) (bytes : List ℕ) (rs : List Record) (how : Ending)
+    → Holds order n offset bytes rs how → 0 < length rs → extent_of order bytes ≡ WholeRecord (record_length order bytes)
+more-whole order n offset _ _ _ (whole_record bytes a h) some = extent-whole order bytes a
+more-whole order n offset _ _ _ _ some = absurd (omega arith)
 
 -- some bytes hold one list of records alone
-pub holds-once : (order : Endianness) (n place : ℕ) (bytes : List ℕ) (rs rs' : List Record) (how how' : Ending)
-    → Holds order n place bytes rs how → Holds order n place bytes rs' how' → (rs' ≡ rs) × (how' ≡ how)
-holds-once order n place _ _ rs' _ how' no_bytes k = has_extent order n place [] rs' how' k
-holds-once order n place _ _ rs' _ how' (part_of_header bytes a b) k =
-    rw (extent-header order bytes a b) at (has_extent order n place bytes rs' how' k)
-holds-once order n place _ _ rs' _ how' (part_of_data bytes a b) k =
-    rw (extent-data order bytes a b) at (has_extent order n place bytes rs' how' k)
-holds-once order n place _ _ rs' how how' (whole_record bytes a h) k =
-    let there = rw (extent-whole order bytes a) at (has_extent order n place bytes rs' how' k) in
+pub holds-once : (order : Endianness) (n offset : ℕ) (bytes : List ℕ) (rs rs' : List Record) (how how' : Ending)
+    → Holds order n offset bytes rs how → Holds order n offset bytes rs' how' → (rs' ≡ rs) × (how' ≡ how)
+holds-once order n offset _ _ rs' _ how' no_bytes k = has_extent order n offset [] rs' how' k
+holds-once order n offset _ _ rs' _ how' (part_of_header bytes a b) k =
+    rw (extent-header order bytes a b) at (has_extent order n offset bytes rs' how' k)
+holds-once order n offset _ _ rs' _ how' (part_of_data bytes a b) k =
+    rw (extent-data order bytes a b) at (has_extent order n offset bytes rs' how' k)
+holds-once order n offset _ _ rs' how how' (whole_record bytes a h) k =
+    let there = rw (extent-whole order bytes a) at (has_extent order n offset bytes rs' how' k) in
     let rest = holds-once order _ _ _ _ there.2 how how' h there.4 in
     (cc, rest.1)
 
 -- the records of some bytes are numbered on
-pub holds-numbered : (order : Endianness) (n place : ℕ) (bytes : List ℕ) (rs : List Record) (how : Ending)
-    → Holds order n place bytes rs how → (i : ℕ) (r : Record) → slice_get rs i ≡ Some r → r.number ≡ n + i
-holds-numbered order n place _ _ _ no_bytes i r at = absurd cc
-holds-numbered order n place _ _ _ (part_of_header bytes a b) i r at = absurd cc
-holds-numbered order n place _ _ _ (part_of_data bytes a b) i r at = absurd cc
-holds-numbered order n place _ _ _ (whole_record bytes a h) zero r at =
-    let same : record_at order n place bytes ≡ r = cc in rw (← same) (omega arith)
-holds-numbered order n place _ _ _ (whole_record bytes a h) (suc i) r at =
+pub holds-numbered : (order : Endianness) (n offset : ℕ) (bytes : List ℕ) (rs : List Record) (how : Ending)
+    → Holds order n offset bytes rs how → (i : ℕ) (r : Record) → slice_get rs i ≡ Some r → r.number ≡ n + i
+holds-numbered order n offset _ _ _ no_bytes i r at = absurd cc
+holds-numbered order n offset _ _ _ (part_of_header bytes a b) i r at = absurd cc
+holds-numbered order n offset _ _ _ (part_of_data bytes a b) i r at = absurd cc
+holds-numbered order n offset _ _ _ (whole_record bytes a h) zero r at =
+    let same : record_at order n offset bytes ≡ r = cc in rw (← same) (omega arith)
+holds-numbered order n offset _ _ _ (whole_record bytes a h) (suc i) r at =
     let is = holds-numbered order _ _ _ _ _ h i r at in omega (arith, is)

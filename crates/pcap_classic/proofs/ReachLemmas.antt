@@ -30,22 +30,22 @@ reaches_first order file h =
       rest = contents-hold _ order 1 FILE_HEADER (drop FILE_HEADER file) (omega arith);
     }
 
--- a record that stands before the end, and the place after it
-pub record Onward (order : Endianness) (file : List ℕ) (i place size : ℕ) : Type 0 where
+-- a record that stands before the end, and the offset after it
+pub record Onward (order : Endianness) (file : List ℕ) (i offset size : ℕ) : Type 0 where
   pub header : RECORD_HEADER ≤ size
-  pub within : size ≤ length (drop place file)
-  pub inside : place + size ≤ length file
-  pub found : slice_get (contents order file).records i ≡ Some (record_at order (i + 1) place (drop place file))
-  pub next : IsRecordStart order file (i + 1) (place + size)
+  pub within : size ≤ length (drop offset file)
+  pub inside : offset + size ≤ length file
+  pub found : slice_get (contents order file).records i ≡ Some (record_at order (i + 1) offset (drop offset file))
+  pub next : IsRecordStart order file (i + 1) (offset + size)
 
 -- a whole record is the next one of the file, and the one after it, or the end, stands behind it
-pub onward : (order : Endianness) (file : List ℕ) (i place size : ℕ) → IsRecordStart order file i place
-    → extent_of order (drop place file) ≡ WholeRecord size → Onward order file i place size
-onward order file i place size here whole =
+pub onward : (order : Endianness) (file : List ℕ) (i offset size : ℕ) → IsRecordStart order file i offset
+    → extent_of order (drop offset file) ≡ WholeRecord size → Onward order file i offset size
+onward order file i offset size here whole =
     let front = rw whole at (has_extent order _ _ _ _ _ here.rest) in
     let split = slice_get-drop_head _ i _ _ front.3 in
     let passed = slice_get_within _ i _ split.0 in
-    let left = length-drop place file in
+    let left = length-drop offset file in
     record {
       header = omega (arith, front.0);
       within = front.1;
@@ -54,68 +54,68 @@ onward order file i place size here whole =
       next = record {
         inside = omega (arith, front.1, here.inside);
         passed = omega (arith, passed);
-        rest = rw (← drop-drop size place file, split.1) front.4;
+        rest = rw (← drop-drop size offset file, split.1) front.4;
       };
     }
 
 -- before the last record a whole record is in front
-pub onward_more : (order : Endianness) (file : List ℕ) (i place : ℕ) → IsRecordStart order file i place
-    → i < length (contents order file).records → Onward order file i place (record_length order (drop place file))
-onward_more order file i place here more =
+pub onward_more : (order : Endianness) (file : List ℕ) (i offset : ℕ) → IsRecordStart order file i offset
+    → i < length (contents order file).records → Onward order file i offset (record_length order (drop offset file))
+onward_more order file i offset here more =
     let left = length-drop i (contents order file).records in
-    onward order file i place _ here (more-whole order _ _ _ _ _ here.rest (omega arith))
+    onward order file i offset _ here (more-whole order _ _ _ _ _ here.rest (omega arith))
 
-pub record IsEnd (order : Endianness) (file : List ℕ) (i place : ℕ) (extent : Extent) : Type 0 where
+pub record IsEnd (order : Endianness) (file : List ℕ) (i offset : ℕ) (extent : Extent) : Type 0 where
   pub count : i ≡ length (contents order file).records
-  pub ending : ending_by extent place ≡ (contents order file).ending
+  pub ending : ending_by extent offset ≡ (contents order file).ending
 
 -- with no whole record in front the file ends
-pub reaches_end : (order : Endianness) (file : List ℕ) (i place : ℕ) → IsRecordStart order file i place
-    → ((size : ℕ) → extent_of order (drop place file) ≡ WholeRecord size → ⊥)
-    → IsEnd order file i place (extent_of order (drop place file))
-reaches_end order file i place here none =
-    by (extent_of order (drop place file)) none (has_extent order _ _ _ _ _ here.rest)
+pub reaches_end : (order : Endianness) (file : List ℕ) (i offset : ℕ) → IsRecordStart order file i offset
+    → ((size : ℕ) → extent_of order (drop offset file) ≡ WholeRecord size → ⊥)
+    → IsEnd order file i offset (extent_of order (drop offset file))
+reaches_end order file i offset here none =
+    by (extent_of order (drop offset file)) none (has_extent order _ _ _ _ _ here.rest)
   where
     ended : (extent : Extent) → drop i (contents order file).records ≡ []
-        → (contents order file).ending ≡ ending_by extent place → IsEnd order file i place extent
+        → (contents order file).ending ≡ ending_by extent offset → IsEnd order file i offset extent
     ended extent nothing ending =
         let some = length-drop i (contents order file).records in
         record { count = omega (arith, ap length nothing, here.passed); ending = sym ending }
 
     by : (extent : Extent) → ((size : ℕ) → extent ≡ WholeRecord size → ⊥)
-        → HasExtent order (i + 1) place (drop place file) (drop i (contents order file).records)
-        (contents order file).ending extent → IsEnd order file i place extent
+        → HasExtent order (i + 1) offset (drop offset file) (drop i (contents order file).records)
+        (contents order file).ending extent → IsEnd order file i offset extent
     by (WholeRecord size) none there = absurd (none size refl)
     by Nothing none there = ended Nothing there.0 there.1
     by PartOfHeader none there = ended PartOfHeader there.0 there.1
     by PartOfData none there = ended PartOfData there.0 there.1
 
 stands : (order : Endianness) (file : List ℕ) (i : ℕ) → FILE_HEADER ≤ length file
-    → i ≤ length (contents order file).records → (place : ℕ) × IsRecordStart order file i place
+    → i ≤ length (contents order file).records → (offset : ℕ) × IsRecordStart order file i offset
 stands order file zero long h = (FILE_HEADER, reaches_first order file long)
 stands order file (suc i) long h =
     let before = stands order file i long (omega arith) in
     let on = onward_more order file i before.0 before.1 (omega arith) in
     (_, rw add-one at on.next)
 
--- the place where record i + 1 is found is its start
-pub start_once : (order : Endianness) (file : List ℕ) (i place : ℕ) (r : Record) → IsRecordStart order file i place
-    → slice_get (contents order file).records i ≡ Some r → place ≡ r.start
-start_once order file i place r here found =
-    let on = onward_more order file i place here (slice_get_within (contents order file).records i r found) in
-    let is : record_at order (i + 1) place (drop place file) ≡ r = cc (found, on.found) in
+-- the offset where record i + 1 is found is its start
+pub start_once : (order : Endianness) (file : List ℕ) (i offset : ℕ) (r : Record) → IsRecordStart order file i offset
+    → slice_get (contents order file).records i ≡ Some r → offset ≡ r.start
+start_once order file i offset r here found =
+    let on = onward_more order file i offset here (slice_get_within (contents order file).records i r found) in
+    let is : record_at order (i + 1) offset (drop offset file) ≡ r = cc (found, on.found) in
     ap (λ (x : Record). x.start) is
 
 -- where record n starts it is found
-pub start_is : (order : Endianness) (file : List ℕ) (n place : ℕ) → FILE_HEADER ≤ length file → 1 ≤ n
-    → n ≤ length (contents order file).records → StartsAt (contents order file).records n place
-    → IsRecordStart order file (n - 1) place
-start_is order file n place long one within there =
+pub start_is : (order : Endianness) (file : List ℕ) (n offset : ℕ) → FILE_HEADER ≤ length file → 1 ≤ n
+    → n ≤ length (contents order file).records → StartsAt (contents order file).records n offset
+    → IsRecordStart order file (n - 1) offset
+start_is order file n offset long one within there =
     let here = stands order file (n - 1) long (omega (arith, within)) in
     let on = onward_more order file (n - 1) here.0 here.1 (omega (arith, one, within)) in
     rw (there _ on.found) here.1
 
--- the number of a record of the file, and the place after it
+-- the number of a record of the file, and the offset after it
 pub record After (order : Endianness) (file : List ℕ) (i : ℕ) (r : Record) : Type 0 where
   pub number : r.number ≡ i + 1
   pub there : IsRecordStart order file (i + 1) (r.start + RECORD_HEADER + length r.bytes)
@@ -131,6 +131,6 @@ after order file i r long found =
     ap (λ (x : Record). length x.bytes) is
     ∙ length-take-le (number_at order 8 4 (drop here.0 file)) (drop RECORD_HEADER (drop here.0 file))
     (omega (arith, on.within, length-drop RECORD_HEADER (drop here.0 file))) in
-    let place : here.0 + record_length order (drop here.0 file) ≡ r.start + RECORD_HEADER + length r.bytes =
+    let offset : here.0 + record_length order (drop here.0 file) ≡ r.start + RECORD_HEADER + length r.bytes =
     omega (arith, ap (λ (x : Record). x.start) is, captured) in
-    record { number = ap (λ (x : Record). x.number) is; there = rw place at on.next }
+    record { number = ap (λ (x : Record). x.number) is; there = rw offset at on.next }

@@ -28,36 +28,36 @@ use Rattle.pcap_classic.proofs.SavefileLemmas.{header-says, same_savefile}
 
 -- ---- numbers and records in the first bytes
 
-big-front : (n place : ℕ) (xs ys : List ℕ) → place + n ≤ length xs
-    → big_endian (xs ++ ys) place n ≡ big_endian xs place n
-big-front zero place xs ys h = refl
-big-front (suc n) place xs ys h =
-    rw (get_or-append xs ys 0 place (omega (arith, h)), big-front n (place + 1) xs ys (omega (arith, h))) refl
+big-front : (n offset : ℕ) (xs ys : List ℕ) → offset + n ≤ length xs
+    → big_endian (xs ++ ys) offset n ≡ big_endian xs offset n
+big-front zero offset xs ys h = refl
+big-front (suc n) offset xs ys h =
+    rw (get_or-append xs ys 0 offset (omega (arith, h)), big-front n (offset + 1) xs ys (omega (arith, h))) refl
 
-little-front : (n place : ℕ) (xs ys : List ℕ) → place + n ≤ length xs
-    → little_endian (xs ++ ys) place n ≡ little_endian xs place n
-little-front zero place xs ys h = refl
-little-front (suc n) place xs ys h =
-    rw (get_or-append xs ys 0 place (omega (arith, h)), little-front n (place + 1) xs ys (omega (arith, h))) refl
+little-front : (n offset : ℕ) (xs ys : List ℕ) → offset + n ≤ length xs
+    → little_endian (xs ++ ys) offset n ≡ little_endian xs offset n
+little-front zero offset xs ys h = refl
+little-front (suc n) offset xs ys h =
+    rw (get_or-append xs ys 0 offset (omega (arith, h)), little-front n (offset + 1) xs ys (omega (arith, h))) refl
 
-pub number-front : (order : Endianness) (place n : ℕ) (xs ys : List ℕ) → place + n ≤ length xs
-    → number_at order place n (xs ++ ys) ≡ number_at order place n xs
+pub number-front : (order : Endianness) (offset n : ℕ) (xs ys : List ℕ) → offset + n ≤ length xs
+    → number_at order offset n (xs ++ ys) ≡ number_at order offset n xs
 unfolding number_at
-number-front Big place n xs ys h = big-front n place xs ys h
-number-front Little place n xs ys h = little-front n place xs ys h
+number-front Big offset n xs ys h = big-front n offset xs ys h
+number-front Little offset n xs ys h = little-front n offset xs ys h
 
 -- a whole record in front, whatever follows
-record WholeFront (order : Endianness) (n place size : ℕ) (xs ys : List ℕ) : Type 0 where
+record WholeFront (order : Endianness) (n offset size : ℕ) (xs ys : List ℕ) : Type 0 where
   pub length_is : size ≡ record_length order xs
   pub within : size ≤ length xs
   pub whole : extent_of order (xs ++ ys) ≡ WholeRecord size
-  pub same : record_at order n place (xs ++ ys) ≡ record_at order n place xs
+  pub same : record_at order n offset (xs ++ ys) ≡ record_at order n offset xs
   pub rest : drop size (xs ++ ys) ≡ drop size xs ++ ys
 
-whole_front : (order : Endianness) (n place size : ℕ) (xs ys : List ℕ) → extent_of order xs ≡ WholeRecord size
-    → WholeFront order n place size xs ys
-whole_front order n place size xs ys e =
-    let front = rw e at (has_extent order n place xs _ _ (contents-hold (length xs) order n place xs (omega arith))) in
+whole_front : (order : Endianness) (n offset size : ℕ) (xs ys : List ℕ) → extent_of order xs ≡ WholeRecord size
+    → WholeFront order n offset size xs ys
+whole_front order n offset size xs ys e =
+    let front = rw e at (has_extent order n offset xs _ _ (contents-hold (length xs) order n offset xs (omega arith))) in
     let long : RECORD_HEADER ≤ length xs = omega (arith, front.0, front.1) in
     let captured = number-front order 8 4 xs ys (omega (arith, long)) in
     let joined = length-append xs ys in
@@ -79,106 +79,106 @@ whole_front order n place size xs ys e =
 -- ---- contents
 
 -- what is left with a whole record in front
-left-whole : (header : FileHeader) (n place size : ℕ) (xs ys : List ℕ)
+left-whole : (header : FileHeader) (n offset size : ℕ) (xs ys : List ℕ)
     → extent_of header.magic.order xs ≡ WholeRecord size
-    → savefile_from header n place (xs ++ ys)
-    ≡ record (savefile_from header (n + 1) (place + size) (drop size xs ++ ys)) {
-      records = record_at header.magic.order n place xs
-          ∷ (savefile_from header (n + 1) (place + size) (drop size xs ++ ys)).records;
+    → savefile_from header n offset (xs ++ ys)
+    ≡ record (savefile_from header (n + 1) (offset + size) (drop size xs ++ ys)) {
+      records = record_at header.magic.order n offset xs
+          ∷ (savefile_from header (n + 1) (offset + size) (drop size xs ++ ys)).records;
     }
-left-whole header n place size xs ys e =
+left-whole header n offset size xs ys e =
     let order : Endianness = header.magic.order in
-    let f = whole_front order n place size xs ys e in
-    let own = rw f.whole at (has_extent order n place (xs ++ ys) _ _
-    (contents-hold (length (xs ++ ys)) order n place (xs ++ ys) (omega arith))) in
+    let f = whole_front order n offset size xs ys e in
+    let own = rw f.whole at (has_extent order n offset (xs ++ ys) _ _
+    (contents-hold (length (xs ++ ys)) order n offset (xs ++ ys) (omega arith))) in
     let rest = rw f.rest at own.4 in
-    let same = holds-once order (n + 1) (place + size) (drop size xs ++ ys) _ _ _ _
-    (contents-hold (length (drop size xs ++ ys)) order (n + 1) (place + size) (drop size xs ++ ys) (omega arith)) rest in
-    same_savefile _ _ refl refl (own.3 ∙ ap (λ (r : Record). r ∷ own.2) f.same ∙ ap (λ (rs : List Record). record_at order n place xs ∷ rs) same.0) same.1
+    let same = holds-once order (n + 1) (offset + size) (drop size xs ++ ys) _ _ _ _
+    (contents-hold (length (drop size xs ++ ys)) order (n + 1) (offset + size) (drop size xs ++ ys) (omega arith)) rest in
+    same_savefile _ _ refl refl (own.3 ∙ ap (λ (r : Record). r ∷ own.2) f.same ∙ ap (λ (rs : List Record). record_at order n offset xs ∷ rs) same.0) same.1
 
-pub has-record : (header : FileHeader) (n place size : ℕ) (bytes : List ℕ) (b : Option (List ℕ))
+pub has-record : (header : FileHeader) (n offset size : ℕ) (bytes : List ℕ) (b : Option (List ℕ))
     → extent_of header.magic.order bytes ≡ WholeRecord size
-    → IfSome (option_map (savefile_from header n place) (prepend_known bytes b)) HasRecord
-has-record header n place size bytes None e = tt
-has-record header n place size bytes (Some rest) e = λ none.
-    let whole = ap (λ (s : Savefile). s.records) (left-whole header n place size bytes rest e) in absurd cc
+    → IfSome (option_map (savefile_from header n offset) (prepend_known bytes b)) HasRecord
+has-record header n offset size bytes None e = tt
+has-record header n offset size bytes (Some rest) e = λ none.
+    let whole = ap (λ (s : Savefile). s.records) (left-whole header n offset size bytes rest e) in absurd cc
 
 -- what is left with no whole record in front
-left-none : (header : FileHeader) (n place : ℕ) (bytes : List ℕ) (extent : Extent)
+left-none : (header : FileHeader) (n offset : ℕ) (bytes : List ℕ) (extent : Extent)
     → extent_of header.magic.order bytes ≡ extent → ((size : ℕ) → extent ≡ WholeRecord size → ⊥)
-    → ((savefile_from header n place bytes).records ≡ [])
-    × ((savefile_from header n place bytes).ending ≡ ending_by extent place)
-left-none header n place bytes (WholeRecord size) e none = absurd (none size refl)
-left-none header n place bytes Nothing e none =
-    rw e at (has_extent header.magic.order n place bytes _ _ (contents-hold (length bytes) header.magic.order n place bytes (omega arith)))
-left-none header n place bytes PartOfHeader e none =
-    rw e at (has_extent header.magic.order n place bytes _ _ (contents-hold (length bytes) header.magic.order n place bytes (omega arith)))
-left-none header n place bytes PartOfData e none =
-    rw e at (has_extent header.magic.order n place bytes _ _ (contents-hold (length bytes) header.magic.order n place bytes (omega arith)))
+    → ((savefile_from header n offset bytes).records ≡ [])
+    × ((savefile_from header n offset bytes).ending ≡ ending_by extent offset)
+left-none header n offset bytes (WholeRecord size) e none = absurd (none size refl)
+left-none header n offset bytes Nothing e none =
+    rw e at (has_extent header.magic.order n offset bytes _ _ (contents-hold (length bytes) header.magic.order n offset bytes (omega arith)))
+left-none header n offset bytes PartOfHeader e none =
+    rw e at (has_extent header.magic.order n offset bytes _ _ (contents-hold (length bytes) header.magic.order n offset bytes (omega arith)))
+left-none header n offset bytes PartOfData e none =
+    rw e at (has_extent header.magic.order n offset bytes _ _ (contents-hold (length bytes) header.magic.order n offset bytes (omega arith)))
 
-pub left-numbered : (header : FileHeader) (count place : ℕ) (bytes : Option (List ℕ))
-    → IfSome (option_map (savefile_from header (count + 1) place) bytes) (λ c. AreNumbered count c.records)
-left-numbered header count place None = tt
-left-numbered header count place (Some bytes) = λ i r at.
+pub left-numbered : (header : FileHeader) (count offset : ℕ) (bytes : Option (List ℕ))
+    → IfSome (option_map (savefile_from header (count + 1) offset) bytes) (λ c. AreNumbered count c.records)
+left-numbered header count offset None = tt
+left-numbered header count offset (Some bytes) = λ i r at.
     let order : Endianness = header.magic.order in
-    let is = holds-numbered order (count + 1) place bytes _ _
-    (contents-hold (length bytes) order (count + 1) place bytes (omega arith)) i r at in
+    let is = holds-numbered order (count + 1) offset bytes _ _
+    (contents-hold (length bytes) order (count + 1) offset bytes (omega arith)) i r at in
     omega (arith, is)
 
 -- ---- a step
 
 -- a record was read
-pub given : (header : FileHeader) (count n place size place' : ℕ) (old new : List ℕ) (a b : Option (List ℕ))
+pub given : (header : FileHeader) (count n offset size offset' : ℕ) (old new : List ℕ) (a b : Option (List ℕ))
     (how : Option Ending) (item : Captured) → Keeps (prepend_known old a) (prepend_known new b)
-    → extent_of header.magic.order new ≡ WholeRecord size → place' ≡ place + size
-    → record_of item ≡ record_at header.magic.order n place new
-    → IfSome (option_map (savefile_from header n place) (prepend_known old a)) (λ c. Gives c (Ok (Some item)) (record {
+    → extent_of header.magic.order new ≡ WholeRecord size → offset' ≡ offset + size
+    → record_of item ≡ record_at header.magic.order n offset new
+    → IfSome (option_map (savefile_from header n offset) (prepend_known old a)) (λ c. Gives c (Ok (Some item)) (record {
       count = count;
       ended = how;
-      left = option_map (savefile_from header (n + 1) place') (prepend_known (drop size new) b);
+      left = option_map (savefile_from header (n + 1) offset') (prepend_known (drop size new) b);
     }))
-given header count n place size place' old new None b how item k e at is = tt
-given header count n place size place' old new (Some xs) None how item k e at is = absurd k
-given header count n place size place' old new (Some xs) (Some ys) how item k e at is =
+given header count n offset size offset' old new None b how item k e at is = tt
+given header count n offset size offset' old new (Some xs) None how item k e at is = absurd k
+given header count n offset size offset' old new (Some xs) (Some ys) how item k e at is =
     let same : old ++ xs ≡ new ++ ys = sym k in (
-      savefile_from header (n + 1) (place + size) (drop size new ++ ys),
+      savefile_from header (n + 1) (offset + size) (drop size new ++ ys),
       rw at refl,
-      rw (same, is) (left-whole header n place size new ys e),
+      rw (same, is) (left-whole header n offset size new ys e),
     )
 
 -- the end was reached
-pub ended : (header : FileHeader) (count n place : ℕ) (old new : List ℕ) (a b : Option (List ℕ)) (extent : Extent)
+pub ended : (header : FileHeader) (count n offset : ℕ) (old new : List ℕ) (a b : Option (List ℕ)) (extent : Extent)
     (how : Ending) → Keeps (prepend_known old a) (prepend_known new b)
     → ((extent_of header.magic.order new ≡ WholeRecord (record_length header.magic.order new) → ⊥) → IsAtEnd b)
     → extent_of header.magic.order new ≡ extent → ((size : ℕ) → extent ≡ WholeRecord size → ⊥)
-    → how ≡ ending_by extent place
-    → IfSome (option_map (savefile_from header n place) (prepend_known old a)) (λ c. Gives c (Ok None) (record {
+    → how ≡ ending_by extent offset
+    → IfSome (option_map (savefile_from header n offset) (prepend_known old a)) (λ c. Gives c (Ok None) (record {
       count = count;
       ended = Some how;
-      left = option_map (savefile_from header n place) (prepend_known new b);
+      left = option_map (savefile_from header n offset) (prepend_known new b);
     }))
-ended header count n place old new None b extent how k end e none is = tt
-ended header count n place old new (Some xs) None extent how k end e none is = absurd k
-ended header count n place old new (Some xs) (Some ys) extent how k end e none is =
+ended header count n offset old new None b extent how k end e none is = tt
+ended header count n offset old new (Some xs) None extent how k end e none is = absurd k
+ended header count n offset old new (Some xs) (Some ys) extent how k end e none is =
     let same : old ++ xs ≡ new ++ ys = sym k in
     let all : new ++ ys ≡ new = ap (λ l. new ++ l) (end (λ whole. none _ (sym e ∙ whole))) ∙ append-nil new in
-    let none_left = left-none header n place new extent e none in
+    let none_left = left-none header n offset new extent e none in
     rw (same, all) (none_left.0, ap Some (is ∙ sym none_left.1), refl)
 
 -- where the room is full before a whole record is there, one longer than the room at first is next, or one that is cut
-needs-room : (header : FileHeader) (n place : ℕ) (xs ys : List ℕ) → ROOM ≤ length xs
+needs-room : (header : FileHeader) (n offset : ℕ) (xs ys : List ℕ) → ROOM ≤ length xs
     → length xs < record_length header.magic.order xs
-    → NeedsRoom (savefile_from header n place (xs ++ ys)).records (savefile_from header n place (xs ++ ys)).ending
-needs-room header n place xs ys full more =
+    → NeedsRoom (savefile_from header n offset (xs ++ ys)).records (savefile_from header n offset (xs ++ ys)).ending
+needs-room header n offset xs ys full more =
     let order : Endianness = header.magic.order in
     let all : List ℕ = xs ++ ys in
     let joined = length-append xs ys in
     let captured = number-front order 8 4 xs ys (omega (arith, full)) in
-    let extent = has_extent order n place all _ _ (contents-hold (length all) order n place all (omega arith)) in
+    let extent = has_extent order n offset all _ _ (contents-hold (length all) order n offset all (omega arith)) in
     elim (cases_lt (length all) (record_length order all)) [
       | inl cut ↦
           (let none = rw (extent-data order all (omega (arith, full, joined)) cut) at extent in
-          rw none.0 (place, none.1))
+          rw none.0 (offset, none.1))
       | inr whole ↦
           (let front = rw (extent-whole order all whole) at extent in
           rw front.3 (omega (
@@ -193,22 +193,22 @@ needs-room header n place xs ys full more =
     ]
 
 -- nothing was taken
-pub stayed : (header : FileHeader) (count n place : ℕ) (old new : List ℕ) (a b : Option (List ℕ)) (fault : ReadFault)
+pub stayed : (header : FileHeader) (count n offset : ℕ) (old new : List ℕ) (a b : Option (List ℕ)) (fault : ReadFault)
     → Keeps (prepend_known old a) (prepend_known new b)
     → (fault ≡ Memory → (ROOM ≤ length new) × (length new < record_length header.magic.order new))
-    → IfSome (option_map (savefile_from header n place) (prepend_known old a)) (λ c. Gives c (Err fault) (record {
+    → IfSome (option_map (savefile_from header n offset) (prepend_known old a)) (λ c. Gives c (Err fault) (record {
       count = count;
       ended = None;
-      left = option_map (savefile_from header n place) (prepend_known new b);
+      left = option_map (savefile_from header n offset) (prepend_known new b);
     }))
-stayed header count n place old new None b fault k full = tt
-stayed header count n place old new (Some xs) None fault k full = absurd k
-stayed header count n place old new (Some xs) (Some ys) (Read e) k full =
+stayed header count n offset old new None b fault k full = tt
+stayed header count n offset old new (Some xs) None fault k full = absurd k
+stayed header count n offset old new (Some xs) (Some ys) (Read e) k full =
     let same : old ++ xs ≡ new ++ ys = sym k in rw same refl
-stayed header count n place old new (Some xs) (Some ys) Memory k full =
+stayed header count n offset old new (Some xs) (Some ys) Memory k full =
     let same : old ++ xs ≡ new ++ ys = sym k in
     let long = full refl in
-    rw same (refl, needs-room header n place new ys long.0 long.1)
+    rw same (refl, needs-room header n offset new ys long.0 long.1)
 
 -- ---- the header
 

@@ -43,11 +43,11 @@ pub record Goes (order : Endianness) (file : List ℕ) (number end : ℕ) (r : R
   pub walk : AreRecordsFrom order file (r.start + RECORD_HEADER + length r.bytes) (number + 1) end
   pub inside : r.start + RECORD_HEADER + length r.bytes ≤ length file
 
-pub goes : (order : Endianness) (file : List ℕ) (place number end : ℕ) (r : Record)
-    → AreRecordsFrom order file place number end
+pub goes : (order : Endianness) (file : List ℕ) (offset number end : ℕ) (r : Record)
+    → AreRecordsFrom order file offset number end
     → slice_get (drop (number - 1) (take (end - 1) (contents order file).records)) 0 ≡ Some r
     → Goes order file number end r
-goes order file place number end r walk first =
+goes order file offset number end r walk first =
     let head = is_first (contents order file).records (number - 1) (end - 1) r first in
     let before : number < end = omega (arith, head.before) in
     let one = walk.from_one before in

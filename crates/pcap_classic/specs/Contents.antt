@@ -27,25 +27,25 @@ pub record Contents : Type 0 where
   pub records : List Record
   pub ending : Ending
 
--- the contents of bytes that stand at a place of the file, by how much of a record they begin with, where the last
+-- the contents of bytes that stand at an offset of the file, by how much of a record they begin with, where the last
 -- argument gives the contents after a whole record of this length
 abbrev pub by_extent : Extent → ℕ → Record → (ℕ → Contents) → Contents
-by_extent Nothing place r rest = record { records = []; ending = Whole }
-by_extent PartOfHeader place r rest = record { records = []; ending = CutHeader place }
-by_extent PartOfData place r rest = record { records = []; ending = CutData place }
-by_extent (WholeRecord size) place r rest = record { records = r ∷ (rest size).records; ending = (rest size).ending }
+by_extent Nothing offset r rest = record { records = []; ending = Whole }
+by_extent PartOfHeader offset r rest = record { records = []; ending = CutHeader offset }
+by_extent PartOfData offset r rest = record { records = []; ending = CutData offset }
+by_extent (WholeRecord size) offset r rest = record { records = r ∷ (rest size).records; ending = (rest size).ending }
 
--- the contents of bytes that stand at a place of the file, the next record having number n. A record
+-- the contents of bytes that stand at an offset of the file, the next record having number n. A record
 -- takes at least one byte, so `most` is large enough where there are at most that many bytes
 unfoldable pub contents_within : ℕ → Endianness → ℕ → ℕ → List ℕ → Contents
-contents_within zero order n place bytes = record { records = []; ending = Whole }
-contents_within (suc most) order n place bytes =
-    by_extent (extent_of order bytes) place (record_at order n place bytes)
-    (λ size. contents_within most order (n + 1) (place + size) (drop size bytes))
+contents_within zero order n offset bytes = record { records = []; ending = Whole }
+contents_within (suc most) order n offset bytes =
+    by_extent (extent_of order bytes) offset (record_at order n offset bytes)
+    (λ size. contents_within most order (n + 1) (offset + size) (drop size bytes))
 
--- the contents of all bytes from a place of the file on, the next record having number n
+-- the contents of all bytes from an offset of the file on, the next record having number n
 abbrev pub contents_from : Endianness → ℕ → ℕ → List ℕ → Contents
-contents_from order n place bytes = contents_within (length bytes) order n place bytes
+contents_from order n offset bytes = contents_within (length bytes) order n offset bytes
 
 -- the contents of a file, after its header
 abbrev pub contents : Endianness → List ℕ → Contents
@@ -74,10 +74,10 @@ header_by_magic (Some magic) file =
 abbrev pub header_of : List ℕ → Result FileHeader HeaderFault
 header_of file = if nat_lt (length file) FILE_HEADER then Err FileHeaderCut else header_by_magic (magic_of file) file
 
--- a capture without its first records, by the header and the bytes from a place on, the next record having number n
+-- a capture without its first records, by the header and the bytes from an offset on, the next record having number n
 abbrev pub savefile_from : FileHeader → ℕ → ℕ → List ℕ → Savefile
-savefile_from header n place bytes =
-    let after = contents_from header.magic.order n place bytes in
+savefile_from header n offset bytes =
+    let after = contents_from header.magic.order n offset bytes in
     record { nanos = header.magic.nanos; link = header.link; records = after.records; ending = after.ending }
 
 -- the capture of a whole file, by its header

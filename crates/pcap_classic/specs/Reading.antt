@@ -21,7 +21,7 @@ pub record Reading : Type 0 where
 -- the next record takes with its header more than ROOM, which is 131,072 bytes, or it is cut in its data
 abbrev pub NeedsRoom : List Record → Ending → Type 0
 NeedsRoom (next ∷ rest) how = ROOM < RECORD_HEADER + length next.bytes
-NeedsRoom [] how = (place : ℕ) × (how ≡ CutData place)
+NeedsRoom [] how = (offset : ℕ) × (how ≡ CutData offset)
 
 -- where this was left of a capture: its first record is lent, and the rest is left; or it has no record, and its ending
 -- is known; or a read failed or memory ran out, and it is left as it was. Memory runs out only where the next record needs

@@ -119,7 +119,7 @@ impl<A: Allocator> Capture<A> {
         self.index.starts.len()
     }
 
-    /// Where record `n`, counted from 1, starts in the file: the byte place of its header, or any place where there is
+    /// Where record `n`, counted from 1, starts in the file: the byte offset of its header, or any offset where there is
     /// no such record. It takes time for up to 63 records before it.
     #[inline]
     pub fn start_of(&self, n: u64) -> usize
@@ -186,7 +186,7 @@ impl<A: Allocator> Capture<A> {
         Records {
             order: self.header.magic.order,
             file: self.file.as_slice(),
-            place: start,
+            offset: start,
             number: from.min(end),
             end,
         }
@@ -203,8 +203,8 @@ impl<A: Allocator> Capture<A> {
             return None;
         }
         let order = self.header.magic.order;
-        let place = item.start + RECORD_HEADER + item.bytes.len();
-        Some(file_record(order, self.file.as_slice(), item.number + 1, place))
+        let offset = item.start + RECORD_HEADER + item.bytes.len();
+        Some(file_record(order, self.file.as_slice(), item.number + 1, offset))
     }
 }
 

@@ -99,8 +99,8 @@ pub struct CaptureReader<R: Read, A: Allocator = Global> {
     last: usize,
     /// The number of records that were read.
     count: u64,
-    /// The place after them.
-    place: usize,
+    /// The offset after them.
+    offset: usize,
     ending: Option<Ending>,
 }
 
@@ -118,11 +118,11 @@ impl<R: Read, A: Allocator> Model for CaptureReader<R, A> {
     ghost view = { λ r. record {
       count = r.count;
       ended = r.ending;
-      left = option_map (savefile_from r.header (r.count + 1) r.place)
+      left = option_map (savefile_from r.header (r.count + 1) r.offset)
           (prepend_known (drop r.last r.window) (R.remaining r.reader));
     } };
 
-    ghost invariant = { λ r. (r.last ≤ length r.window) × (RECORD_HEADER * r.count + FILE_HEADER ≤ r.place) };
+    ghost invariant = { λ r. (r.last ≤ length r.window) × (RECORD_HEADER * r.count + FILE_HEADER ≤ r.offset) };
 }
 
 impl<R: Read, A: Allocator> CaptureReader<R, A> {
@@ -160,7 +160,7 @@ impl<R: Read, A: Allocator> CaptureReader<R, A> {
             window,
             last: 0,
             count: 0,
-            place: FILE_HEADER,
+            offset: FILE_HEADER,
             ending: None,
         })
     }
@@ -218,14 +218,14 @@ impl<R: Read, A: Allocator> CaptureReader<R, A> {
             return Err(fault);
         }
         let extent = extent_of(order, self.window.as_slice());
-        let start = self.place;
+        let start = self.offset;
         if let Extent::WholeRecord(size) = extent {
-            let Some(place) = start.checked_add(size) else {
+            let Some(offset) = start.checked_add(size) else {
                 return Err(ReadFault::Read(Error::from(ErrorKind::FileTooLarge)));
             };
             self.last = size;
             self.count += 1;
-            self.place = place;
+            self.offset = offset;
             let bytes = self.window.as_slice();
             return Ok(Some(front_record(order, self.count, start, bytes)));
         }

@@ -15,7 +15,7 @@ use byteorder::{BigEndian, ByteOrder, LittleEndian};
 pub struct Captured<'a> {
     /// The number of the record, counted from 1.
     pub number: u64,
-    /// The byte place of the record's header in the file, counted from 0.
+    /// The byte offset of the record's header in the file, counted from 0.
     pub start: usize,
     /// The time stamp's seconds, as they stand in the file.
     pub seconds: u32,
@@ -28,7 +28,7 @@ pub struct Captured<'a> {
     pub bytes: &'a [u8],
 }
 
-/// The record that the bytes begin with, and that stands at this place of the file.
+/// The record that the bytes begin with, and that stands at this offset of the file.
 #[inline(always)]
 pub(crate) fn front_record(
     order: Endianness,
@@ -116,29 +116,29 @@ pub(crate) enum Endianness {
 }
 
 impl Endianness {
-    /// The number in the two bytes from a place on.
+    /// The number in the two bytes from an offset on.
     #[tactic(auto, unfolding(crate::specs::FileNumbers::number_at))]
     #[inline]
-    pub(crate) fn read_u16(self, bytes: &[u8], place: usize) -> u16
-        requires { place + 2 ≤ length bytes.now }
-        ensures { result ≡ number_at self place 2 bytes.now }
+    pub(crate) fn read_u16(self, bytes: &[u8], offset: usize) -> u16
+        requires { offset + 2 ≤ length bytes.now }
+        ensures { result ≡ number_at self offset 2 bytes.now }
     {
         match self {
-            Endianness::Big => BigEndian::read_u16(&bytes[place..]),
-            Endianness::Little => LittleEndian::read_u16(&bytes[place..]),
+            Endianness::Big => BigEndian::read_u16(&bytes[offset..]),
+            Endianness::Little => LittleEndian::read_u16(&bytes[offset..]),
         }
     }
 
-    /// The number in the four bytes from a place on.
+    /// The number in the four bytes from an offset on.
     #[tactic(auto, unfolding(crate::specs::FileNumbers::number_at))]
     #[inline(always)]
-    pub(crate) fn read_u32(self, bytes: &[u8], place: usize) -> u32
-        requires { place + 4 ≤ length bytes.now }
-        ensures { result ≡ number_at self place 4 bytes.now }
+    pub(crate) fn read_u32(self, bytes: &[u8], offset: usize) -> u32
+        requires { offset + 4 ≤ length bytes.now }
+        ensures { result ≡ number_at self offset 4 bytes.now }
     {
         match self {
-            Endianness::Big => BigEndian::read_u32(&bytes[place..]),
-            Endianness::Little => LittleEndian::read_u32(&bytes[place..]),
+            Endianness::Big => BigEndian::read_u32(&bytes[offset..]),
+            Endianness::Little => LittleEndian::read_u32(&bytes[offset..]),
         }
     }
 }

@@ -10,21 +10,21 @@ use crate::captured::Extent;
 pub enum Ending {
     /// Nothing is left.
     Whole,
-    /// 1 to 15 bytes are left, fewer than a record's header has. They begin at this byte place of the
+    /// 1 to 15 bytes are left, fewer than a record's header has. They begin at this byte offset of the
     /// file, counted from 0.
     CutHeader(usize),
     /// The header of a record is left, with fewer bytes after it than its captured length says. It
-    /// begins at this byte place of the file, counted from 0.
+    /// begins at this byte offset of the file, counted from 0.
     CutData(usize),
 }
 
-/// How the file ends where no whole record stands at `place`, but so much of one.
-pub(crate) fn ending_by(extent: Extent, place: usize) -> Ending
-    ensures { result ≡ spec.ending_by extent place }
+/// How the file ends where no whole record stands at `offset`, but so much of one.
+pub(crate) fn ending_by(extent: Extent, offset: usize) -> Ending
+    ensures { result ≡ spec.ending_by extent offset }
 {
     match extent {
-        Extent::PartOfHeader => Ending::CutHeader(place),
-        Extent::PartOfData => Ending::CutData(place),
+        Extent::PartOfHeader => Ending::CutHeader(offset),
+        Extent::PartOfData => Ending::CutData(offset),
         _ => Ending::Whole,
     }
 }

@@ -19,7 +19,7 @@ pub(crate) const STRIDE: u64 = 64;
 pub(crate) struct Index<A: Allocator> {
     /// The number of whole records.
     pub(crate) count: u64,
-    /// The places of the records 1, 65, 129 and so on.
+    /// The offsets of the records 1, 65, 129 and so on.
     pub(crate) starts: Vec<usize, A>,
     pub(crate) ending: Ending,
 }
@@ -29,26 +29,26 @@ pub(crate) struct Index<A: Allocator> {
 fn keep_start<A: Allocator>(
     starts: &mut Vec<usize, A>,
     count: u64,
-    place: usize,
+    offset: usize,
 ) -> Result<(), AllocError>
-    ensures { OnOk result ((order : Endianness) → (file : List ℕ) → IsRecordStart order file count place →
+    ensures { OnOk result ((order : Endianness) → (file : List ℕ) → IsRecordStart order file count offset →
         AreKept order file starts.old.items count → AreKept order file starts.new.items (count + 1)) }
 {
     if count % STRIDE == 0 {
-        starts.push(place)?;
+        starts.push(offset)?;
     }
     Ok(())
 }
 
-/// The records before a place.
+/// The records before an offset.
 #[derive(Drop)]
 struct Passed<A: Allocator> {
     /// Their number.
     count: u64,
-    /// The places of the records 1, 65, 129 and so on of them.
+    /// The offsets of the records 1, 65, 129 and so on of them.
     starts: Vec<usize, A>,
-    /// The place after them.
-    place: usize,
+    /// The offset after them.
+    offset: usize,
 }
 
 /// Whether a whole record of this length is in front.
@@ -62,8 +62,8 @@ fn is_record_of(order: Endianness, bytes: &[u8], size: usize) -> bool
     }
 }
 
-/// Passes the records from the place on that have this length.
-// The processor takes the next one to have it too. So it goes on to the place after that one before its header comes
+/// Passes the records from the offset on that have this length.
+// The processor takes the next one to have it too. So it goes on to the offset after that one before its header comes
 // from memory, which takes longer than all the rest.
 #[inline]
 fn pass_repeats<A: Allocator>(
@@ -72,16 +72,16 @@ fn pass_repeats<A: Allocator>(
     size: usize,
     passed: &mut Passed<A>,
 ) -> Result<(), AllocError>
-    requires { ArePassed order file.now passed.old.count passed.old.starts.items passed.old.place }
-    ensures passed { OnOk result (ArePassed order file.now passed.new.count passed.new.starts.items passed.new.place) }
-    ensures on { passed.old.place ≤ passed.new.place }
-    ensures all { OnOk result (spec.extent_of order (drop passed.new.place file.now) ≢ WholeRecord size) }
+    requires { ArePassed order file.now passed.old.count passed.old.starts.items passed.old.offset }
+    ensures passed { OnOk result (ArePassed order file.now passed.new.count passed.new.starts.items passed.new.offset) }
+    ensures on { passed.old.offset ≤ passed.new.offset }
+    ensures all { OnOk result (spec.extent_of order (drop passed.new.offset file.now) ≢ WholeRecord size) }
     ensures refused { OnErr result (0 < length (spec.contents order file.now).records) }
 {
-    'repeats: while is_record_of(order, &file[passed.place..], size) {
-        keep_start(&mut passed.starts, passed.count, passed.place)?;
+    'repeats: while is_record_of(order, &file[passed.offset..], size) {
+        keep_start(&mut passed.starts, passed.count, passed.offset)?;
         passed.count += 1;
-        passed.place += size;
+        passed.offset += size;
     }
     Ok(())
 }
@@ -99,12 +99,12 @@ pub(crate) fn index_of<A: Allocator>(
     let mut passed = Passed {
         count: 0,
         starts: Vec::new(alloc),
-        place: FILE_HEADER,
+        offset: FILE_HEADER,
     };
-    'lengths: while let Extent::WholeRecord(size) = extent_of(order, &file[passed.place..]) {
+    'lengths: while let Extent::WholeRecord(size) = extent_of(order, &file[passed.offset..]) {
         pass_repeats(order, file, size, &mut passed)?;
     }
-    let ending = ending_by(extent_of(order, &file[passed.place..]), passed.place);
+    let ending = ending_by(extent_of(order, &file[passed.offset..]), passed.offset);
     Ok(Index {
         count: passed.count,
         starts: passed.starts,
@@ -112,21 +112,21 @@ pub(crate) fn index_of<A: Allocator>(
     })
 }
 
-/// The place of record `to`, counted from 0, by that of record `from`.
+/// The offset of record `to`, counted from 0, by that of record `from`.
 pub(crate) fn start_from(order: Endianness, file: &[u8], from: u64, start: usize, to: u64) -> usize
     requires start { IsRecordStart order file.now from start }
     requires ahead { from ≤ to }
     requires within { to ≤ length (spec.contents order file.now).records }
     ensures { IsRecordStart order file.now to result }
 {
-    let mut place = start;
+    let mut offset = start;
     'records: for _i in from..to {
-        place += record_length(order, &file[place..]);
+        offset += record_length(order, &file[offset..]);
     }
-    place
+    offset
 }
 
-/// The place of record `number`, counted from 1, by the kept start before it.
+/// The offset of record `number`, counted from 1, by the kept start before it.
 #[inline]
 pub(crate) fn start_of(order: Endianness, file: &[u8], starts: &[usize], number: u64) -> usize
     requires from_one { 1 ≤ number }

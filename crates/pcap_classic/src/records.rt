@@ -15,8 +15,8 @@ use std::marker::Model;
 pub struct Records<'a> {
     pub(crate) order: Endianness,
     pub(crate) file: &'a [u8],
-    /// The place of the first record that is left.
-    pub(crate) place: usize,
+    /// The offset of the first record that is left.
+    pub(crate) offset: usize,
     /// Its number, counted from 1.
     pub(crate) number: u64,
     /// The number after that of the last record.
@@ -33,7 +33,7 @@ impl<'a> Model for Records<'a> {
 
     ghost view = { λ w. drop (w.number - 1) (take (w.end - 1) (contents w.order w.file.now).records) };
 
-    ghost invariant = { λ w. AreRecordsFrom w.order w.file.now w.place w.number w.end };
+    ghost invariant = { λ w. AreRecordsFrom w.order w.file.now w.offset w.number w.end };
 }
 
 impl<'a> Records<'a> {
@@ -54,7 +54,7 @@ impl<'a> Records<'a> {
         requires { 0 < length self.now }
         ensures { slice_get self.now 0 ≡ Some (record_of result) }
     {
-        file_record(self.order, self.file, self.number, self.place)
+        file_record(self.order, self.file, self.number, self.offset)
     }
 
     /// Goes on past its first record, which is this one.
@@ -64,7 +64,7 @@ impl<'a> Records<'a> {
         ensures { self.old ≡ record_of first.now ∷ self.new }
     {
         self.number += 1;
-        self.place = first.start + RECORD_HEADER + first.bytes.len();
+        self.offset = first.start + RECORD_HEADER + first.bytes.len();
     }
 }
 

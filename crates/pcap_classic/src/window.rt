@@ -71,7 +71,7 @@ fn make_room<A: Allocator>(
     buf.resize(len + more, 0)
 }
 
-/// Reads once, to the place after the first `len` bytes; how many bytes came.
+/// Reads once, to the offset after the first `len` bytes; how many bytes came.
 fn read_after<R: Read, A: Allocator>(
     reader: &mut R,
     buf: &mut Vec<u8, A>,

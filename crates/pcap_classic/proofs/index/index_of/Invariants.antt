@@ -3,7 +3,7 @@ use Rattle.pcap_classic.specs.Index.{ArePassed}
 use Rattle.pcap_classic.proofs.index.index_of.Given as goal
 
 abbrev pub invariant-lengths : goal.invariant-lengths
-invariant-lengths g l = ArePassed l.order l.file l.passed.count l.passed.starts.items l.passed.place
+invariant-lengths g l = ArePassed l.order l.file l.passed.count l.passed.starts.items l.passed.offset
 
 abbrev pub decreases-lengths : goal.decreases-lengths
-decreases-lengths g l = length l.file - l.passed.place
+decreases-lengths g l = length l.file - l.passed.offset

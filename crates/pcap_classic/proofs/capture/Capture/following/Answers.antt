@@ -2,14 +2,14 @@ use Rattle.std.proofs.Common.{◌≡◌, ◌-◌, ◌+◌, arith}
 use Rattle.pcap_classic.proofs.ReachLemmas.{after}
 use Rattle.pcap_classic.proofs.capture.Capture.following.Goals as goal
 
-pub overflow_add-place : goal.overflow_add-place
-overflow_add-place g c =
+pub overflow_add-offset : goal.overflow_add-offset
+overflow_add-offset g c =
     let own = rw (← c.self.view_is) at c.requires in
     let next = after _ _ _ _ c.self.invariant.1.long own in
     omega (arith, next.there.inside)
 
-pub overflow_add-place-2 : goal.overflow_add-place-2
-overflow_add-place-2 g c =
+pub overflow_add-offset-2 : goal.overflow_add-offset-2
+overflow_add-offset-2 g c =
     let own = rw (← c.self.view_is) at c.requires in
     let next = after _ _ _ _ c.self.invariant.1.long own in
     omega (arith, next.there.inside)

@@ -3,4 +3,4 @@ use Rattle.pcap_classic.proofs.capture_reader.CaptureReader.count.Goals as goal
 
 pub returns-clause-numbered : goal.returns-clause-numbered
 returns-clause-numbered g c =
-    let w = c.self.inside in rw (← c.self.view_is) (left-numbered w.header w.count w.place _)
+    let w = c.self.inside in rw (← c.self.view_is) (left-numbered w.header w.count w.offset _)

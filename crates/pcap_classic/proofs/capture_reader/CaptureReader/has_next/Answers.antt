@@ -15,5 +15,5 @@ pub returns : goal.returns
 returns g c = λ is.
     let w = c.self.inside in
     let none = is_none c.needed.result c.is_none.result c.is_none.ensures is in
-    rw (← c.self.view_is) (has-record w.header (w.count + 1) w.place _ (drop w.last w.window) _
+    rw (← c.self.view_is) (has-record w.header (w.count + 1) w.offset _ (drop w.last w.window) _
     (rw (all_after w.window w.last) at (rw (none, c.as_slice.ensures) at c.needed.ensures.none)))
