@@ -14,15 +14,12 @@ condition_text Always = codes "\n"
 condition_text (A v) = with_number (codes " when a = ") v (codes "\n")
 condition_text (X v) = with_number (codes " when x = ") v (codes "\n")
 
-abbrev pub line_with_condition : List Insn → ℕ → When → List ℕ
-line_with_condition list n when = line_text list n ++ condition_text when
-
 unfoldable pub set_head : List ℕ
 set_head = codes "breakpoint at: "
 
 -- the reply to a breakpoint that was set: its instruction, and its condition
 abbrev pub set_text : List Insn → ℕ → When → List ℕ
-set_text list n when = set_head ++ line_with_condition list n when
+set_text list n when = set_head ++ (line_text list n ++ condition_text when)
 
 -- the reply, or nothing where no program is loaded
 abbrev pub set_in : Option (List Insn) → ℕ → When → List ℕ

@@ -27,13 +27,9 @@ known_text passes fails = with_numbers (codes "bpf passes:") passes (codes " fai
 unfoldable pub counts_text : Counts → List ℕ
 counts_text n = known_text n.passes n.fails ++ unknown_text n.unknown
 
--- what stands after the counts at a limit: the next packet
-abbrev pub next_text : ℕ → List ℕ
-next_text packet = with_number (codes " next:") packet (codes "\n")
-
--- the reply of a run that came to its limit
+-- the reply of a run that came to its limit: the counts, and the next packet
 abbrev pub limit_text : Counts → ℕ → List ℕ
-limit_text n packet = counts_text n ++ next_text packet
+limit_text n packet = counts_text n ++ with_number (codes " next:") packet (codes "\n")
 
 -- the reply of a run that came to the capture's end
 abbrev pub finished_text : Counts → List ℕ

@@ -13,20 +13,20 @@ program_text count = with_number (codes "bpf: ") count (codes " instructions\n")
 -- where a capture is cut, if it is, and the line's end
 abbrev pub ending_text : Ending → List ℕ
 ending_text Whole = codes "\n"
-ending_text (CutHeader place) = with_number (codes ", cut record header at ") place (codes "\n")
-ending_text (CutData place) = with_number (codes ", cut record data at ") place (codes "\n")
+ending_text (CutHeader offset) = with_number (codes ", cut record header at ") offset (codes "\n")
+ending_text (CutData offset) = with_number (codes ", cut record data at ") offset (codes "\n")
 
 -- how many packets a capture has, and where it is cut, if it is
-abbrev pub packets_text : ℕ → Ending → List ℕ
-packets_text count how = with_number (codes "pcap: ") count (codes " packets") ++ ending_text how
+abbrev pub packet_count_text : ℕ → Ending → List ℕ
+packet_count_text count how = with_number (codes "pcap: ") count (codes " packets") ++ ending_text how
 
 -- the reply to a capture
 abbrev pub capture_text : Savefile → List ℕ
-capture_text c = packets_text (length c.records) c.ending
+capture_text c = packet_count_text (length c.records) c.ending
 
 -- the same line where the capture is cut, and nothing where it isn't: a summary of all packets by `cbpf why` ends with
 -- it, and after other reports it goes to standard error
 abbrev pub cut_text : ℕ → Ending → List ℕ
 cut_text count Whole = []
-cut_text count (CutHeader place) = packets_text count (CutHeader place)
-cut_text count (CutData place) = packets_text count (CutData place)
+cut_text count (CutHeader offset) = packet_count_text count (CutHeader offset)
+cut_text count (CutData offset) = packet_count_text count (CutData offset)

@@ -8,7 +8,7 @@ ghost use Rattle.cbpf_reply.specs.Scratch.{scratch_lines};
 
 use crate::packet::write_packet;
 use crate::reply::{Place, Stop, Why};
-use crate::scratch::write_run_at;
+use crate::scratch::write_slots_at;
 use cbpf_code::{Line, Program, WriteFault, ext_name, prepend_line};
 use std::alloc::Allocator;
 use std::io::Write;
@@ -64,7 +64,7 @@ fn write_registers<W: Write>(w: &mut W, a: u32, x: u32, slots: &[u32]) -> Result
     line.prepend(b"A:        [");
     line.write(w)?;
     for i in 0..slots.len() {
-        write_run_at(w, slots, i)?;
+        write_slots_at(w, slots, i)?;
     }
     Ok(())
 }

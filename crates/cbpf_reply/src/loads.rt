@@ -17,18 +17,18 @@ pub fn write_program<W: Write>(w: &mut W, count: u32) -> Result<(), WriteFault>
 
 /// Writes how many packets a capture has, and where it is cut, if it is.
 fn write_packets<W: Write>(w: &mut W, count: u64, ending: Ending) -> Result<(), WriteFault>
-    ensures { Wrote (W.contents w.old) (W.contents w.new) result (spec.packets_text count ending) }
+    ensures { Wrote (W.contents w.old) (W.contents w.new) result (spec.packet_count_text count ending) }
 {
     let mut line = Line::new();
     line.prepend(b"\n");
     match ending {
         Ending::Whole => {}
-        Ending::CutHeader(place) => {
-            line.prepend_u64(place as u64);
+        Ending::CutHeader(offset) => {
+            line.prepend_u64(offset as u64);
             line.prepend(b", cut record header at ");
         }
-        Ending::CutData(place) => {
-            line.prepend_u64(place as u64);
+        Ending::CutData(offset) => {
+            line.prepend_u64(offset as u64);
             line.prepend(b", cut record data at ");
         }
     }

@@ -38,9 +38,9 @@ fn write_scratch_line<W: Write>(
     line.write(w)
 }
 
-/// Writes the line of the run that begins at a slot, if one does.
+/// Writes the line that begins at a slot, if one does.
 #[tactic(auto, using(crate::proofs::RowLemmas::runs))]
-pub(crate) fn write_run_at<W: Write>(w: &mut W, slots: &[u32], i: usize) -> Result<(), WriteFault>
+pub(crate) fn write_slots_at<W: Write>(w: &mut W, slots: &[u32], i: usize) -> Result<(), WriteFault>
     requires { i < length slots.now }
     ensures { Wrote (W.contents w.old) (W.contents w.new) result (spec.slots_line slots.now i) }
 {

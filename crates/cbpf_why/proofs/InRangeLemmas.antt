@@ -8,19 +8,16 @@ use Rattle.std.proofs.lemmas.List.Sums.{length-filter, count_by-le-length}
 use Rattle.std.proofs.lemmas.Grind.{flat_map-append}
 use Rattle.cbpf_code.proofs.WrittenLemmas.{appended-then, part-then}
 use Rattle.pcap_classic.specs.Records.{Record}
-use Rattle.cbpf_why.specs.Ends.{ended}
-use Rattle.cbpf_why.specs.Job.{Took, TookFromKnown, Going, Faulted, Ranged, Closed, Stopped, Stepped, StepFault, LeavesKnown, from_first}
+use Rattle.cbpf_why.specs.Job.{Took, TookFromKnown, Going, RangeFault, Ranged, Closed, Stopped, Stepped, StepFault, LeavesKnown, from_first}
 use Rattle.cbpf_why.specs.Question.{machine_in}
 use Rattle.cbpf_why.specs.Reports.{packet_text, packets_text}
 use Rattle.cbpf_why.specs.declared.chosen.PacketRange.{PacketRange}
 use Rattle.cbpf_why.specs.declared.job.WhyFault.{WhyFault}
 use Rattle.cbpf_why.specs.declared.job.WhyFault.TheVariants.{Write}
 use Rattle.cbpf_why.specs.declared.job.WhyFault.TheVariants as why
-use Rattle.pcap_classic.specs.declared.reading.ReadFault.TheVariants.{Read, Memory}
 use Rattle.cbpf_code.specs.Writing.{Appended, Wrote}
 use Rattle.cbpf_code.specs.declared.writing.WriteFault.{WriteFault}
 use Rattle.pcap_classic.specs.Reading.{Reading}
-use Rattle.cbpf_why.specs.Runs.{taken}
 use Rattle.cbpf_why.proofs.ReadLemmas.{reads-more}
 
 known_more : (first : ℕ) (old : Option Savefile) (mid new : Option Savefile) (before after : ℕ) (more one : List Record)
@@ -94,7 +91,7 @@ range-goes q first records before old mid new c d u v w after going count step =
 pub range-fails : {A P : Type 0} (q : Question P) (range : PacketRange) (records : List Record) (before : ℕ) (old mid new : Reading)
     (c : Counted A) (u v w : Option (List ℕ)) (after : ℕ) (fault : WhyFault)
     → Going q range.first records before old.left mid.left c u v after → mid.count ≡ after → after < range.last
-    → StepFault q range.first mid new v w fault → Faulted q range before old new u w fault
+    → StepFault q range.first mid new v w fault → RangeFault q range before old new u w fault
 range-fails q range records before old mid new c u v w after fault going count below step = record {
   more = going.more ++ from_first range.first step.one;
   after = after + length step.one;

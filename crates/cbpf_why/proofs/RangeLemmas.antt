@@ -1,7 +1,7 @@
 -- Packets of ranges, which are taken one range after another.
 use Rattle.std.proofs.Common.{◌≡◌, ℕ, zero, suc, ◌<◌, ◌≤◌, List, [], ◌∷◌, ◌++◌, length, take, arith, refl, sym, ap, ◌∙◌}
 use Rattle.std.proofs.Common.{length-append, append_assoc, inl, inr, take_all}
-use Rattle.std.specs.Prelude.{Bool, ◌||◌, ◌==◌, true, false, Option, Some, None, filter, nat_le, slice_get, if◌then◌else◌}
+use Rattle.std.specs.Prelude.{Bool, ◌==◌, true, false, Option, Some, None, filter, nat_le, slice_get, if◌then◌else◌}
 use Rattle.std.specs.List.{All, list_any}
 use Rattle.std.proofs.lemmas.Bool.{cases_lt, or_from, or_parts, or_right}
 use Rattle.std.proofs.lemmas.Bool.Decides.{nat_tests}
@@ -15,7 +15,7 @@ use Rattle.pcap_classic.specs.Reading.{Reading}
 use Rattle.pcap_classic.specs.Records.{Record}
 use Rattle.pcap_classic.specs.Savefile.{Savefile}
 use Rattle.cbpf_why.specs.Chosen.{AreSorted, chosen, is_chosen, is_within}
-use Rattle.cbpf_why.specs.Job.{Broke, Faulted, IsOver, Looked, LookedKnown, Ranged, TookFrom, TookFromKnown, Stopped, Took, Went}
+use Rattle.cbpf_why.specs.Job.{Broke, RangeFault, IsOver, Looked, LookedKnown, Ranged, TookFrom, TookFromKnown, Stopped, Took, Went}
 use Rattle.cbpf_why.specs.Question.{machine_in}
 use Rattle.cbpf_why.specs.Reports.{ends_beyond, goes_to_end, packet_text, packets_text}
 use Rattle.cbpf_why.specs.declared.chosen.PacketRange.{PacketRange}
@@ -208,7 +208,7 @@ module _ {A P : Type 0} (q : Question P) (i : ℕ) (range : PacketRange) (before
         (appended-then _ _ _ _ _ went.wrote ranged.going.wrote);
   }
 
-  pub broke-more : (fault : WhyFault) → Faulted q range before mid new v w fault → Broke q old.left new u w fault
+  pub broke-more : (fault : WhyFault) → RangeFault q range before mid new v w fault → Broke q old.left new u w fault
   broke-more fault faulted = record {
     records = went.records ++ faulted.more;
     known = rw faulted.count (known_more q.packets.now i range old.left mid.left new.left before faulted.after went.records
@@ -267,7 +267,7 @@ went-all q last old new d u w after all ranged = record {
 }
 
 pub broke-all : {P : Type 0} (q : Question P) (last : ℕ) (old new : Reading) (u w : Option (List ℕ)) (fault : WhyFault)
-    → q.packets.now ≡ [] → Faulted q (record { first = 1; last = last }) 0 old new u w fault
+    → q.packets.now ≡ [] → RangeFault q (record { first = 1; last = last }) 0 old new u w fault
     → Broke q old.left new u w fault
 broke-all q last old new u w fault all faulted = record {
   records = faulted.more;

@@ -7,7 +7,6 @@ use Rattle.pcap_classic.specs.Savefile.{Savefile}
 use Rattle.cbpf_why.specs.declared.counted.Counted.{Counted}
 use Rattle.cbpf_why.specs.declared.job.Question.{Question}
 use Rattle.pcap_classic.specs.Records.{Record}
-use Rattle.cbpf_why.specs.Ends.{ended}
 use Rattle.cbpf_why.specs.Job.{Took, TookFrom, Stepped, StepFault, LeavesKnown, from_first}
 use Rattle.cbpf_why.specs.Question.{machine_in}
 use Rattle.cbpf_why.specs.Reports.{packet_text}
@@ -19,7 +18,6 @@ use Rattle.cbpf_code.specs.Writing.{Appended, AppendedPart}
 use Rattle.pcap_classic.specs.Lent.{record_of}
 use Rattle.pcap_classic.specs.Reading.{Reading, Gives, Proceeds}
 use Rattle.pcap_classic.specs.declared.captured.Captured.{Captured}
-use Rattle.cbpf_why.specs.Runs.{taken}
 
 abbrev with_records : Savefile → List Record → Savefile
 with_records s l = record s { records = l }

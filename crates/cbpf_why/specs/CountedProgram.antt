@@ -11,7 +11,7 @@ use Rattle.cbpf_why.specs.Groups.{Keeps, by_verdict}
 use Rattle.cbpf_why.specs.Runs.{executed, taken}
 
 -- each instruction has its counts, its groups, and says whether it begins a block
-pub record Fits {A P : Type 0} (c : CountedProgram A P) : Type 0 where
+pub record HasAllCounts {A P : Type 0} (c : CountedProgram A P) : Type 0 where
   pub runs : length c.runs.now ≡ length c.program.now
   pub begins : length c.begins.now ≡ length c.program.now
   pub groups : (v : Verdict) → length (by_verdict c.groups.now v) ≡ length c.program.now

@@ -42,17 +42,13 @@ end_by turn_is.Outside = Outside
 end_by turn_is.ZeroDivisor = ZeroDivisor
 end_by (turn_is.Unknown e) = Unknown e
 
--- the state before the last instruction that a packet executes
-abbrev pub last_state : Machine → Record → Registers
-last_state m r = last_or zero_state (trace m r.bytes r.wire)
-
--- how a packet ends, by its last state
+-- how a packet ends, by the state before the last instruction that it executes
 abbrev pub ended_at : Machine → Record → Registers → Ended
 ended_at m r s = record { packet = r.number; pc = s.pc; reason = end_by (turn m r.bytes r.wire s) }
 
 -- how a packet ends: its number, its last instruction, and what the turn there gave
 abbrev pub ended : Machine → Record → Ended
-ended m r = ended_at m r (last_state m r)
+ended m r = ended_at m r (last_or zero_state (trace m r.bytes r.wire))
 
 abbrev pub ends_of : Machine → List Record → List Ended
 ends_of m records = map (ended m) records

@@ -1,5 +1,5 @@
 -- What was taken of a capture, packet by packet (this project's own). No public clause names it.
-use Rattle.std.specs.Prelude.{◌≡◌, ℕ, ◌+◌, ◌<◌, ◌≤◌, nat_le, Bool, true, false, List, [], ◌∷◌, ◌++◌, length, filter, slice_get, if◌then◌else◌}
+use Rattle.std.specs.Prelude.{◌≡◌, ℕ, ◌+◌, ◌<◌, ◌≤◌, nat_le, Bool, true, false, List, [], ◌++◌, length, filter, slice_get, if◌then◌else◌}
 use Rattle.std.specs.Prelude.{Option, Some, None, IfSome, ◌^◌, Result, Ok, Err}
 use Rattle.cbpf_machine.specs.Machine.{Machine}
 use Rattle.cbpf_machine.specs.Ways.{Counted as CountedRuns, runs_at}
@@ -88,11 +88,6 @@ Closed old new (Err Read) text = ⊥
 abbrev pub IsOver : Option Savefile → Reading → Type 0
 IsOver old new = IfSome old (λ _. IfSome new.left (λ s. (s.records ≡ []) × (new.ended ≡ Some s.ending)))
 
--- where the last packet read has a number below the range's last, the end of the capture was reached, if the capture is
--- known
-abbrev pub EndsBefore : PacketRange → ℕ → Reading → Reading → Type 0
-EndsBefore range after old new = after < range.last → IsOver old.left new
-
 -- of a range: `before` packets were read and `records` taken; now `after` packets are read, and `more` was taken too.
 -- `w` and `v` are what the writer held then and holds now
 pub record Going {A P : Type 0} (q : Question P) (first : ℕ) (records : List Record) (before : ℕ) (old new : Option Savefile)
@@ -103,7 +98,8 @@ pub record Going {A P : Type 0} (q : Question P) (first : ℕ) (records : List R
   pub reads : TookFromKnown first old new before after more
   pub wrote : Appended w v (packets_text q.report (machine_in q) more)
 
--- the same of all packets of a range
+-- The same of all packets of a range. Where the last packet read has a number below the range's last, the end of the
+-- capture was reached, if the capture is known.
 pub record Ranged {A P : Type 0} (q : Question P) (range : PacketRange) (records : List Record) (before : ℕ)
     (old new : Reading) (c : Counted A) (w v : Option (List ℕ)) (after : ℕ) : Type 0 where
   pub going : Going q range.first records before old.left new.left c w v after
@@ -111,10 +107,10 @@ pub record Ranged {A P : Type 0} (q : Question P) (range : PacketRange) (records
   pub up_to : before < after → after ≤ range.last
   pub most : after < 2 ^ 60
   pub count : new.count ≡ after
-  pub ends : EndsBefore range after old new
+  pub ends : after < range.last → IsOver old.left new
 
 -- or a fault came, after the records that were taken last
-pub record Faulted {P : Type 0} (q : Question P) (range : PacketRange) (before : ℕ) (old new : Reading)
+pub record RangeFault {P : Type 0} (q : Question P) (range : PacketRange) (before : ℕ) (old new : Reading)
     (w v : Option (List ℕ)) (fault : WhyFault) : Type 0 where
   pub more : List Record
   pub after : ℕ

@@ -39,8 +39,8 @@ abbrev pub step_line : List Insn → Registers → Option Registers → List ℕ
 step_line list s next =
     concat (line_text list s.pc ∷ codes "\t" ∷ registers_text s.a s.x ∷ went_text list s next ∷ codes "\n" ∷ [])
 
-abbrev pub step_in : Machine → Record → Registers → List ℕ
-step_in m r s = step_line m.list s (next_of (turn m r.bytes r.wire s))
+abbrev pub step_text : Machine → Record → Registers → List ℕ
+step_text m r s = step_line m.list s (next_of (turn m r.bytes r.wire s))
 
 -- the conditional jump that came last before a packet failed
 abbrev pub test_text : List Insn → Option Test → List ℕ
@@ -59,11 +59,9 @@ ended_text list e = concat (verdict_in e ∷ codes " at " ∷ line_text list e.p
 abbrev pub end_line : List Insn → Ended → Option Test → List ℕ
 end_line list e test = ended_text list e ++ (test_after list (verdict_of e.reason) test ++ codes "\n")
 
-abbrev pub way_head : ℕ → List ℕ
-way_head packet = with_number (codes "packet ") packet (codes "\n")
-
 -- the packet's number, a line for each instruction that it executes, and how it ends
 unfoldable pub way_text : Machine → Record → List ℕ
 way_text m r =
     let entries = trace m r.bytes r.wire in
-    way_head r.number ++ (flat_map (step_in m r) entries ++ end_line m.list (ended m r) (option_map test_of (last_test m.list entries)))
+    with_number (codes "packet ") r.number (codes "\n")
+    ++ (flat_map (step_text m r) entries ++ end_line m.list (ended m r) (option_map test_of (last_test m.list entries)))

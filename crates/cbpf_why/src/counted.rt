@@ -40,41 +40,41 @@ impl<A: Allocator + Copy> Counted<A> {
 /// How a packet ends.
 // It alone calls `end_of_packet`, and the summary alone calls it: so the loop over a packet is inlined there.
 #[inline(always)]
-fn end_of<P: Allocator>(question: &Question<'_, P>, record: &Captured<'_>) -> Ended
-    ensures ended { result ≡ ended (machine_in question.now) (record_of record.now) }
+fn end_of<P: Allocator>(question: &Question<'_, P>, item: &Captured<'_>) -> Ended
+    ensures ended { result ≡ ended (machine_in question.now) (record_of item.now) }
     ensures inside { result.pc < length question.now.program.now }
 {
     let _sound = question.program.len();
     let task = Task {
         program: question.program,
-        packet: packet_of(record),
+        packet: packet_of(item),
         values: question.values,
     };
     let end = end_of_packet(&mut Meter::new(), &task);
-    Ended::of(record.number, &end)
+    Ended::of(item.number, &end)
 }
 
 /// How a packet ends, with its instructions counted.
 fn count_packet<P: Allocator, A: Allocator>(
     question: &Question<'_, P>,
     tally: &mut Tally<A>,
-    record: &Captured<'_>,
+    item: &Captured<'_>,
 ) -> Ended
     requires long { length tally.old.runs ≡ length question.now.program.now }
     requires few { tally.old.packets + 1 < 2 ^ 64 }
-    ensures ended { result ≡ ended (machine_in question.now) (record_of record.now) }
+    ensures ended { result ≡ ended (machine_in question.now) (record_of item.now) }
     ensures inside { result.pc < length question.now.program.now }
     ensures tallies { (records : List Record) → spec.Tallies tally.old (machine_in question.now) records
-        → spec.Tallies tally.new (machine_in question.now) (records ++ record_of record.now ∷ []) }
+        → spec.Tallies tally.new (machine_in question.now) (records ++ record_of item.now ∷ []) }
 {
     let _sound = question.program.len();
     let task = Task {
         program: question.program,
-        packet: packet_of(record),
+        packet: packet_of(item),
         values: question.values,
     };
     let way = tally.count_packet(&mut Meter::new(), &task);
-    Ended::of(record.number, &way.end)
+    Ended::of(item.number, &way.end)
 }
 
 /// Counts a packet by how it ends.
@@ -83,27 +83,27 @@ fn count_packet<P: Allocator, A: Allocator>(
 pub(crate) fn add_ended<P: Allocator, A: Allocator + Copy>(
     question: &Question<'_, P>,
     counted: &mut Counted<A>,
-    record: &Captured<'_>,
+    item: &Captured<'_>,
 )
     requires counts { (spec.counts_groups question.now.report ≡ true) × (spec.counts_runs question.now.report ≡ false) }
     requires took { (records : List Record) × spec.Took question.now counted.old records × (length records + 1 < 2 ^ 64) }
     ensures { (records : List Record) → spec.Took question.now counted.old records
-        → spec.Took question.now counted.new (records ++ record_of record.now ∷ []) }
+        → spec.Took question.now counted.new (records ++ record_of item.now ∷ []) }
 {
-    counted.groups.add(end_of(question, record));
+    counted.groups.add(end_of(question, item));
 }
 
 /// Counts a packet by how it ends, and its instructions.
 pub(crate) fn add_counted<P: Allocator, A: Allocator + Copy>(
     question: &Question<'_, P>,
     counted: &mut Counted<A>,
-    record: &Captured<'_>,
+    item: &Captured<'_>,
 )
     requires counts { (spec.counts_groups question.now.report ≡ true) × (spec.counts_runs question.now.report ≡ true) }
     requires took { (records : List Record) × spec.Took question.now counted.old records × (length records + 1 < 2 ^ 64) }
     ensures { (records : List Record) → spec.Took question.now counted.old records
-        → spec.Took question.now counted.new (records ++ record_of record.now ∷ []) }
+        → spec.Took question.now counted.new (records ++ record_of item.now ∷ []) }
 {
-    let ended = count_packet(question, &mut counted.tally, record);
+    let ended = count_packet(question, &mut counted.tally, item);
     counted.groups.add(ended);
 }

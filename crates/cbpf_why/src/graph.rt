@@ -5,7 +5,7 @@ ghost use Rattle.cbpf_code.specs.Writing.{Wrote};
 ghost use Rattle.cbpf_machine.specs.Machine.{Machine};
 ghost use Rattle.cbpf_reply.specs.Packet.{texts_from};
 ghost use Rattle.pcap_classic.specs.Records.{Record};
-ghost use Rattle.cbpf_why.specs.CountedProgram.{Fits, IsCounted};
+ghost use Rattle.cbpf_why.specs.CountedProgram.{HasAllCounts, IsCounted};
 ghost use Rattle.cbpf_why.specs.Ends.{ends_of};
 ghost use Rattle.cbpf_why.specs.Graph as spec;
 
@@ -43,7 +43,7 @@ pub(crate) struct Facts {
 impl<A: Allocator + Copy, P: Allocator> CountedProgram<'_, A, P> {
     /// The block of an instruction, where that of the one before is known.
     fn block_at(&self, i: u32, before: u32) -> u32
-        requires fits { Fits self.now }
+        requires fits { HasAllCounts self.now }
         requires inside { i < length self.now.program.now }
         ensures within { before ≤ i → result ≤ i }
         ensures block { (m : Machine) (records : List Record) → IsCounted self.now m records
@@ -54,7 +54,7 @@ impl<A: Allocator + Copy, P: Allocator> CountedProgram<'_, A, P> {
 
     /// What is known of an instruction of this block.
     fn facts_at(&self, i: u32, block: u32) -> Facts
-        requires fits { Fits self.now }
+        requires fits { HasAllCounts self.now }
         requires inside { i < length self.now.program.now }
         requires block { block < length self.now.program.now }
         ensures { (m : Machine) (records : List Record) → IsCounted self.now m records
@@ -71,7 +71,7 @@ impl<A: Allocator + Copy, P: Allocator> CountedProgram<'_, A, P> {
 
     /// Whether an instruction is the last of its block.
     fn is_last(&self, i: u32) -> bool
-        requires fits { Fits self.now }
+        requires fits { HasAllCounts self.now }
         requires inside { i < length self.now.program.now }
         ensures { (m : Machine) (records : List Record) → IsCounted self.now m records → result ≡ spec.is_last m.list i }
     {
@@ -85,7 +85,7 @@ fn write_blocks<W: Write, A: Allocator + Copy, P: Allocator>(
     w: &mut W,
     counted: &CountedProgram<'_, A, P>,
 ) -> Result<(), WriteFault>
-    requires { Fits counted.now }
+    requires { HasAllCounts counted.now }
     ensures { (m : Machine) (records : List Record) → IsCounted counted.now m records
         → Wrote (W.contents w.old) (W.contents w.new) result
         (texts_from (λ i. spec.block_part m.list i (spec.facts_at m records (ends_of m records) i))
@@ -105,7 +105,7 @@ fn write_ends<W: Write, A: Allocator + Copy, P: Allocator>(
     w: &mut W,
     counted: &CountedProgram<'_, A, P>,
 ) -> Result<(), WriteFault>
-    requires { Fits counted.now }
+    requires { HasAllCounts counted.now }
     ensures { (m : Machine) (records : List Record) → IsCounted counted.now m records
         → Wrote (W.contents w.old) (W.contents w.new) result
         (texts_from (λ i. spec.end_part (spec.block_of m.list i) (spec.facts_at m records (ends_of m records) i))
@@ -124,7 +124,7 @@ pub(crate) fn write_graph<W: Write, A: Allocator + Copy, P: Allocator>(
     w: &mut W,
     counted: &CountedProgram<'_, A, P>,
 ) -> Result<(), WriteFault>
-    requires { Fits counted.now }
+    requires { HasAllCounts counted.now }
     ensures { (m : Machine) (records : List Record) → IsCounted counted.now m records
         → Wrote (W.contents w.old) (W.contents w.new) result (spec.graph_text m records (ends_of m records)) }
 {

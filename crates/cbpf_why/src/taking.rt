@@ -40,18 +40,18 @@ fn writes_each(report: Report) -> bool
 fn write_line_of<P: Allocator, W: Write>(
     question: &Question<'_, P>,
     w: &mut W,
-    record: &Captured<'_>,
+    item: &Captured<'_>,
 ) -> Result<(), WriteFault>
     ensures { Wrote (W.contents w.old) (W.contents w.new) result
-        (packet_line (ended (machine_in question.now) (record_of record.now))) }
+        (packet_line (ended (machine_in question.now) (record_of item.now))) }
 {
     let task = Task {
         program: question.program,
-        packet: packet_of(record),
+        packet: packet_of(item),
         values: question.values,
     };
     let way = way_of_packet(&mut Meter::new(), &task);
-    write_packet_line(w, Ended::of(record.number, &way.end))
+    write_packet_line(w, Ended::of(item.number, &way.end))
 }
 
 /// Counts a packet, or writes what is to be reported of it.
@@ -59,27 +59,27 @@ fn take_packet<P: Allocator, A: Allocator + Copy, W: Write>(
     question: &Question<'_, P>,
     counted: &mut Counted<A>,
     w: &mut W,
-    record: &Captured<'_>,
+    item: &Captured<'_>,
 ) -> Result<(), WriteFault>
     requires { (records : List Record) × spec.Took question.now counted.old records × (length records + 1 < 2 ^ 64) }
     ensures wrote { Wrote (W.contents w.old) (W.contents w.new) result
-        (reports.packet_text question.now.report (machine_in question.now) (record_of record.now)) }
+        (reports.packet_text question.now.report (machine_in question.now) (record_of item.now)) }
     ensures took { (records : List Record) → spec.Took question.now counted.old records
-        → OnOk result (spec.Took question.now counted.new (records ++ record_of record.now ∷ [])) }
+        → OnOk result (spec.Took question.now counted.new (records ++ record_of item.now ∷ [])) }
 {
     match question.report {
-        Report::Ways => write_way(w, question.program, question.values, record),
-        Report::Packets => write_line_of(question, w, record),
+        Report::Ways => write_way(w, question.program, question.values, item),
+        Report::Packets => write_line_of(question, w, item),
         Report::Summary => {
-            add_ended(question, counted, record);
+            add_ended(question, counted, item);
             Ok(())
         }
         Report::Coverage => {
-            add_counted(question, counted, record);
+            add_counted(question, counted, item);
             Ok(())
         }
         Report::Graph => {
-            add_counted(question, counted, record);
+            add_counted(question, counted, item);
             Ok(())
         }
     }
@@ -120,11 +120,11 @@ fn take_next<P: Allocator, A: Allocator + Copy, R: Read, B: Allocator, W: Write>
         return Err(WhyFault::Write);
     }
     match reader.next_record() {
-        Ok(Some(record)) => {
-            if record.number < first {
+        Ok(Some(item)) => {
+            if item.number < first {
                 return Ok(true);
             }
-            match take_packet(question, counted, w, &record) {
+            match take_packet(question, counted, w, &item) {
                 Ok(()) => Ok(true),
                 Err(_) => Err(WhyFault::Write),
             }
@@ -152,7 +152,7 @@ fn take_range<P: Allocator, A: Allocator + Copy, R: Read, B: Allocator, W: Write
         MatchResult result
         (λ after. spec.Ranged question.now range records before reader.old reader.new counted.new
         (W.contents w.old) (W.contents w.new) after)
-        (λ fault. spec.Faulted question.now range before reader.old reader.new
+        (λ fault. spec.RangeFault question.now range before reader.old reader.new
         (W.contents w.old) (W.contents w.new) fault) }
 {
     let mut count = before;

@@ -93,15 +93,15 @@ fn write_steps<W: Write, A: Allocator>(
     w: &mut W,
     p: &Program<A>,
     values: &Values,
-    record: &Captured<'_>,
+    item: &Captured<'_>,
 ) -> Result<(), WriteFault>
     ensures { Wrote (W.contents w.old) (W.contents w.new) result
-        (flat_map (spec.step_in (machine_of p.now values.now) (record_of record.now))
-        (trace (machine_of p.now values.now) record.now.bytes.now record.now.wire)) }
+        (flat_map (spec.step_text (machine_of p.now values.now) (record_of item.now))
+        (trace (machine_of p.now values.now) item.now.bytes.now item.now.wire)) }
 {
     let packet = Packet {
-        bytes: record.bytes,
-        wire: record.wire,
+        bytes: item.bytes,
+        wire: item.wire,
     };
     let _sound = p.len();
     let mut meter = Meter::new();
@@ -176,22 +176,22 @@ pub(crate) fn write_way<W: Write, A: Allocator>(
     w: &mut W,
     p: &Program<A>,
     values: &Values,
-    record: &Captured<'_>,
+    item: &Captured<'_>,
 ) -> Result<(), WriteFault>
     ensures { Wrote (W.contents w.old) (W.contents w.new) result
-        (spec.way_text (machine_of p.now values.now) (record_of record.now)) }
+        (spec.way_text (machine_of p.now values.now) (record_of item.now)) }
 {
-    write_with_number(w, b"packet ", record.number, b"\n")?;
-    write_steps(w, p, values, record)?;
+    write_with_number(w, b"packet ", item.number, b"\n")?;
+    write_steps(w, p, values, item)?;
     let _sound = p.len();
     let task = Task {
         program: p,
         packet: Packet {
-            bytes: record.bytes,
-            wire: record.wire,
+            bytes: item.bytes,
+            wire: item.wire,
         },
         values,
     };
     let way = way_of_packet(&mut Meter::new(), &task);
-    write_end(w, p, Ended::of(record.number, &way.end), &way.test)
+    write_end(w, p, Ended::of(item.number, &way.end), &way.test)
 }

@@ -19,8 +19,8 @@ loop-i-init g c = let text : c.prepend-5.new.self ≡ register_lines c.args.a c.
 
 pub loop-i-preserved : goal.loop-i-preserved
 loop-i-preserved g c = left-next _ _ _ _ _ _ _ (texts-next (slots_line c.args.slots.now) c.loop-i.i _ (omega arith))
-    c.loop-i.invariant c.in_ok-write_run_at.ensures
+    c.loop-i.invariant c.in_ok-write_slots_at.ensures
 
-pub returns-in_err-write_run_at : goal.returns-in_err-write_run_at
-returns-in_err-write_run_at g c = left-stop _ _ _ _ _ _ _ _ c.from_residual-in_err-write_run_at.ensures.0
-    (texts-next (slots_line c.args.slots.now) c.loop-i.i _ (omega arith)) c.loop-i.invariant c.in_err-write_run_at.ensures
+pub returns-in_err-write_slots_at : goal.returns-in_err-write_slots_at
+returns-in_err-write_slots_at g c = left-stop _ _ _ _ _ _ _ _ c.from_residual-in_err-write_slots_at.ensures.0
+    (texts-next (slots_line c.args.slots.now) c.loop-i.i _ (omega arith)) c.loop-i.invariant c.in_err-write_slots_at.ensures

@@ -27,7 +27,7 @@ add-requires g c =
 
 pub returns : goal.returns
 returns g c = λ records took.
-    took-both c.args.question.now _ records (record_of c.args.record.now) c.requires.counts.0 c.requires.counts.1
+    took-both c.args.question.now _ records (record_of c.args.item.now) c.requires.counts.0 c.requires.counts.1
     (rw c.count_packet-ended.ensures.ended at (c.add.ensures _ _
     (groups_counted c.args.question.now c.args.counted.now records c.requires.counts.0 took)))
     (c.count_packet-ended.ensures.tallies records

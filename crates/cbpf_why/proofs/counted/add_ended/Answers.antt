@@ -18,7 +18,7 @@ add-requires g c =
 
 pub returns : goal.returns
 returns g c = λ records took.
-    took-groups c.args.question.now c.args.counted.now _ records (record_of c.args.record.now) c.requires.counts.0
+    took-groups c.args.question.now c.args.counted.now _ records (record_of c.args.item.now) c.requires.counts.0
     c.requires.counts.1 took refl
     (rw c.end_of.ensures.ended at (c.add.ensures _ _
     (groups_counted c.args.question.now c.args.counted.now records c.requires.counts.0 took)))

@@ -8,7 +8,7 @@ use Rattle.cbpf_why.proofs.counted.end_of.Goals as goal
 
 pub returns-clause-ended : goal.returns-clause-ended
 returns-clause-ended g c =
-    c.of.ensures ∙ ended-is (machine_in c.args.question.now) (record_of c.args.record.now)
+    c.of.ensures ∙ ended-is (machine_in c.args.question.now) (record_of c.args.item.now)
     c.end_of_packet-end.result.last c.end_of_packet-end.result.reason
     (rw c.packet_of.ensures at c.end_of_packet-end.ensures.last) (rw c.packet_of.ensures at c.end_of_packet-end.ensures.reason)
 
@@ -16,7 +16,7 @@ pub returns-clause-inside : goal.returns-clause-inside
 returns-clause-inside g c =
     let task : OnPacket = record {
       machine = machine_in c.args.question.now;
-      bytes = c.args.record.now.bytes.now;
-      wire = c.args.record.now.wire;
+      bytes = c.args.item.now.bytes.now;
+      wire = c.args.item.now.wire;
     } in
     rw (c.of.ensures, c.end_of_packet-end.ensures.last, c.packet_of.ensures) (last_inside task c.len-sound.ensures.sound)

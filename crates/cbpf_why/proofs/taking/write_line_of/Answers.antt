@@ -6,7 +6,7 @@ use Rattle.cbpf_why.proofs.taking.write_line_of.Goals as goal
 
 pub returns : goal.returns
 returns g c =
-    let ended = c.of.ensures ∙ ended-is (machine_in c.args.question.now) (record_of c.args.record.now)
+    let ended = c.of.ensures ∙ ended-is (machine_in c.args.question.now) (record_of c.args.item.now)
     c.way_of_packet-way.result.end.last c.way_of_packet-way.result.end.reason
     (rw c.packet_of.ensures at c.way_of_packet-way.ensures.last) (rw c.packet_of.ensures at c.way_of_packet-way.ensures.reason) in
     rw ended at c.write_packet_line.ensures

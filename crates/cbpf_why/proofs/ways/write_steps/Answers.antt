@@ -4,7 +4,7 @@ use Rattle.cbpf_machine.specs.Machine.{machine_of}
 use Rattle.cbpf_machine.proofs.FollowLemmas.{start_goes}
 use Rattle.cbpf_machine.proofs.TraceLemmas.{goes_next, turn_on}
 use Rattle.pcap_classic.specs.Lent.{record_of}
-use Rattle.cbpf_why.specs.Ways.{step_in}
+use Rattle.cbpf_why.specs.Ways.{step_text}
 use Rattle.cbpf_why.proofs.StepLemmas.{next_is, steps-next, steps-stop, steps-done}
 use Rattle.cbpf_why.proofs.ways.write_steps.Goals as goal
 
@@ -25,7 +25,7 @@ turns-preserved g c =
       here = rw c.turn.ensures.spent (goes_next before.here c.in-Some.next is);
       rises = omega (arith, c.turn.ensures.spent, before.rises, higher.0);
       written = rw c.turn.ensures.spent (steps-next before.here
-          (step_in (machine_of c.args.p.now c.args.values.now) (record_of c.args.record.now)) _ _ _ before.written
+          (step_text (machine_of c.args.p.now c.args.values.now) (record_of c.args.item.now)) _ _ _ before.written
           (rw (c.next_state-next.ensures, made) at c.in_ok-write_step.ensures));
     }
 
@@ -33,12 +33,12 @@ pub returns-in_err-write_step : goal.returns-in_err-write_step
 returns-in_err-write_step g c =
     let before = c.turns.invariant in
     err-exit _ _ _ _ c.from_residual.ensures.0 (steps-stop before.here
-    (step_in (machine_of c.args.p.now c.args.values.now) (record_of c.args.record.now)) _ _ _ before.written
+    (step_text (machine_of c.args.p.now c.args.values.now) (record_of c.args.item.now)) _ _ _ before.written
     (rw (c.next_state-next.ensures, c.turn.ensures.value) at c.in_err-write_step.ensures))
 
 pub returns-in-None : goal.returns-in-None
 returns-in-None g c =
     let before = c.turns.invariant in
-    steps-done before.here (step_in (machine_of c.args.p.now c.args.values.now) (record_of c.args.record.now)) _ _ _
+    steps-done before.here (step_text (machine_of c.args.p.now c.args.values.now) (record_of c.args.item.now)) _ _ _
     (rw (c.next_state-next.ensures, c.turn.ensures.value) at c.in-None.is) before.written
     (rw (c.next_state-next.ensures, c.turn.ensures.value) at c.in_ok-write_step.ensures)

@@ -4,7 +4,7 @@ use Rattle.cbpf_code.specs.Writing.{Appended}
 use Rattle.cbpf_machine.specs.Machine.{machine_of}
 use Rattle.cbpf_machine.specs.OnPacket.{IsOnTrace, on_packet, trace_in}
 use Rattle.pcap_classic.specs.Lent.{record_of}
-use Rattle.cbpf_why.specs.Ways.{step_in}
+use Rattle.cbpf_why.specs.Ways.{step_text}
 use Rattle.cbpf_why.proofs.ways.write_steps.Given as goal
 
 abbrev pub invariant-turns : goal.invariant-turns
@@ -12,7 +12,7 @@ invariant-turns g l = record {
   here : IsOnTrace (on_packet l.p l.values l.packet) l.meter l.s;
   rises : l.meter ≤ l.s.pc;
   written : Appended (g.W.Write.contents l.fn.w) (g.W.Write.contents l.w)
-      (flat_map (step_in (machine_of l.p l.values) (record_of l.record)) (take l.meter (trace_in (on_packet l.p l.values l.packet))));
+      (flat_map (step_text (machine_of l.p l.values) (record_of l.item)) (take l.meter (trace_in (on_packet l.p l.values l.packet))));
 }
 
 abbrev pub decreases-turns : goal.decreases-turns

@@ -23,8 +23,8 @@ pub write_end-requires-clause-ended : goal.write_end-requires-clause-ended
 write_end-requires-clause-ended g c =
     let task : OnPacket = record {
       machine = machine_of c.args.p.now c.args.values.now;
-      bytes = c.args.record.now.bytes.now;
-      wire = c.args.record.now.wire;
+      bytes = c.args.item.now.bytes.now;
+      wire = c.args.item.now.wire;
     } in
     rw (c.of.ensures, c.way_of_packet-way.ensures.last) (last_inside task c.len-sound.ensures.sound)
 
@@ -32,15 +32,15 @@ pub write_end-requires-clause-test : goal.write_end-requires-clause-test
 write_end-requires-clause-test g c =
     let task : OnPacket = record {
       machine = machine_of c.args.p.now c.args.values.now;
-      bytes = c.args.record.now.bytes.now;
-      wire = c.args.record.now.wire;
+      bytes = c.args.item.now.bytes.now;
+      wire = c.args.item.now.wire;
     } in
     rw c.way_of_packet-way.ensures.test (test_inside task c.len-sound.ensures.sound)
 
 pub returns : goal.returns
 unfolding way_text
 returns g c =
-    let ended = c.of.ensures ∙ ended-is (machine_of c.args.p.now c.args.values.now) (record_of c.args.record.now)
+    let ended = c.of.ensures ∙ ended-is (machine_of c.args.p.now c.args.values.now) (record_of c.args.item.now)
     c.way_of_packet-way.result.end.last c.way_of_packet-way.result.end.reason
     c.way_of_packet-way.ensures.last c.way_of_packet-way.ensures.reason in
     wrote-then _ _ _ _ _ _ c.in_ok-write_with_number.ensures (wrote-then _ _ _ _ _ _ c.in_ok-write_steps.ensures

@@ -1,6 +1,6 @@
 use Rattle.std.proofs.Common.{◌≡◌, ◌≤◌, ◌+◌, ◌-◌, ◌==◌, length, drop}
 use Rattle.std.specs.List.{prefix_len}
-use Rattle.cbpf_reply.proofs.scratch.write_run_at.Given as goal
+use Rattle.cbpf_reply.proofs.scratch.write_slots_at.Given as goal
 
 abbrev pub invariant-loop-end : goal.invariant-loop-end
 invariant-loop-end g l = record {
