@@ -16,7 +16,7 @@ use Rattle.cbpf_dbg.specs.declared.cursor.Cursor.{Cursor}
 use Rattle.cbpf_dbg.specs.Joined.{Entry, joined, entries_after, is_hit, stops_of, stops_after, counts, stop_at}
 use Rattle.cbpf_dbg.specs.View.{View, start}
 use Rattle.cbpf_dbg.specs.Commands.{run_to, run_out, within_limit, finished, limited}
-use Rattle.cbpf_dbg.specs.Cursor.{Stands, view_at, entry_here, Gives, run_from, step_from, ComesTo}
+use Rattle.cbpf_dbg.specs.Cursor.{Stands, view_at, entry_here, RepliesBy, run_from, step_from, ComesTo}
 use Rattle.cbpf_dbg.specs.Cursor.{owed}
 use Rattle.cbpf_dbg.proofs.JoinedLemmas.{ahead-end}
 use Rattle.cbpf_dbg.specs.Breakpoints.{Breakpoints}
@@ -84,7 +84,7 @@ module _ (machine : Machine) (c : Savefile) (breakpoints : Breakpoints) (limit :
 
   pub run_stopped : (w2 : Cursor) (h : Stop) → w2.origin ≡ w0.origin
       → ComesTo machine c.records breakpoints end w0 (Some h) w2
-      → Gives machine c breakpoints (run_from machine c.records limit) w0 w2 (Stopped h)
+      → RepliesBy machine c breakpoints (run_from machine c.records limit) w0 w2 (Stopped h)
   run_stopped w2 h origin comes =
       let inside = within_end limit w0.place.packet h.place.packet (length c.records) (rw is at comes.1)
       (rest-later machine c.records breakpoints w0.place h _ comes.2) in
@@ -96,7 +96,7 @@ module _ (machine : Machine) (c : Savefile) (breakpoints : Breakpoints) (limit :
 
   pub run_limited : (w1 : Cursor) → Stands machine c.records w1 → w1.origin ≡ w0.origin
       → ComesTo machine c.records breakpoints end w0 None w1 → end ≤ length c.records
-      → Gives machine c breakpoints (run_from machine c.records limit) w0 w1 (Limit w1.counts)
+      → RepliesBy machine c breakpoints (run_from machine c.records limit) w0 w1 (Limit w1.counts)
   run_limited w1 stands origin comes here =
       let packet : w1.place.packet ≡ end = ap (λ (q : Place). q.packet) comes.0 in
       let out : run_to view0 machine c.records limit (hits w0.place) ≡ limited view0 machine c.records end =
@@ -116,7 +116,7 @@ module _ (machine : Machine) (c : Savefile) (breakpoints : Breakpoints) (limit :
 
   pub run_finished : (w1 w2 : Cursor) → Stands machine c.records w1 → w1.origin ≡ w0.origin
       → ComesTo machine c.records breakpoints end w0 None w1 → length c.records < end → w2.place ≡ start
-      → w2.origin ≡ 1 → Gives machine c breakpoints (run_from machine c.records limit) w0 w2 (Finished w1.counts)
+      → w2.origin ≡ 1 → RepliesBy machine c breakpoints (run_from machine c.records limit) w0 w2 (Finished w1.counts)
   run_finished w1 w2 stands origin comes past place2 origin2 =
       let none = none_ahead w1 comes past in
       let out = run_out_end view0 machine c.records limit (rw is at past) in
@@ -156,13 +156,13 @@ module _ (machine : Machine) (c : Savefile) (breakpoints : Breakpoints) (n : ℕ
   pub step_stopped : (w2 : Cursor) (r : Record) (stop : Stop)
       → slice_get (entries_after machine c.records w0.place) (n - 1) ≡ Some (entry_here machine r w2)
       → stop ≡ stop_at why.Step (entry_here machine r w2) → w2.origin ≡ w0.origin
-      → Gives machine c breakpoints (step_from machine c.records n) w0 w2 (Stopped stop)
+      → RepliesBy machine c breakpoints (step_from machine c.records n) w0 w2 (Stopped stop)
   step_stopped w2 r stop sought is origin =
       record { reply_is = rw (sought, is) refl; place_is = rw sought refl; origin_is = rw sought origin }
 
   pub step_finished : (w1 w2 : Cursor) → slice_get (entries_after machine c.records w0.place) (n - 1) ≡ None
       → Stands machine c.records w1 → w1.origin ≡ w0.origin → w1.place.packet ≡ length c.records + 1 → w2.place ≡ start
-      → w2.origin ≡ 1 → Gives machine c breakpoints (step_from machine c.records n) w0 w2 (Finished w1.counts)
+      → w2.origin ≡ 1 → RepliesBy machine c breakpoints (step_from machine c.records n) w0 w2 (Finished w1.counts)
   step_finished w1 w2 sought stands origin end place2 origin2 =
       let counted : w1.counts ≡ counts machine c.records w0.origin (length c.records + 1) =
       rw (← origin, ← end) stands.counted in

@@ -27,7 +27,7 @@ use Rattle.cbpf_dbg.specs.View.{View}
 use Rattle.cbpf_dbg.specs.Commands.{run_to, run_out, within_limit, stopped, finished, limited, step_to, entry_in}
 use Rattle.cbpf_dbg.specs.Commands.{back_place}
 use Rattle.cbpf_dbg.specs.Shown.{IsWithin, CanShow, Shows}
-use Rattle.cbpf_dbg.specs.Cursor.{Stands, Gives, run_from, step_from, StepsBack, view_at}
+use Rattle.cbpf_dbg.specs.Cursor.{Stands, RepliesBy, run_from, step_from, StepsBack, view_at}
 use Rattle.cbpf_dbg.proofs.JoinedLemmas.{entry}
 use Rattle.cbpf_dbg.proofs.WholeLemmas.{HasLoaded}
 use Rattle.cbpf_dbg.specs.Breakpoints.{Breakpoints}
@@ -162,14 +162,14 @@ module _ (machine : Machine) (c : Savefile) (v : View) (h : HasLoaded machine c 
 
     -- what a run answers
     pub shows-run : (old new : Cursor) (limit : Option ℕ) (reply : RunReply)
-        → Gives machine c breakpoints (run_from machine c.records limit) old new reply → Shows v reply
+        → RepliesBy machine c breakpoints (run_from machine c.records limit) old new reply → Shows v reply
     shows-run old new limit reply runs =
         shows-reply reply (rw runs.reply_is (within-run_to (view_at machine c breakpoints old) machine c.records limit
         (stops_after machine c.records breakpoints old.place) (within-rest machine c.records breakpoints old.place sound)))
 
     -- what a step on answers
     pub shows-step_on : (old new : Cursor) (n : ℕ) (reply : RunReply)
-        → Gives machine c breakpoints (step_from machine c.records n) old new reply → Shows v reply
+        → RepliesBy machine c breakpoints (step_from machine c.records n) old new reply → Shows v reply
     shows-step_on old new n reply steps =
         shows-reply reply (rw steps.reply_is (within-step_to (view_at machine c breakpoints old) machine c.records
         (slice_get (entries_after machine c.records old.place) (n - 1))

@@ -25,7 +25,7 @@ use Rattle.cbpf_reply.specs.declared.reply.Why.TheVariants as why
 use Rattle.std.proofs.lemmas.List.{length-map}
 use Rattle.cbpf_dbg.specs.View.{View}
 use Rattle.cbpf_dbg.specs.Commands.{turns_in}
-use Rattle.cbpf_dbg.specs.Cursor.{Stands, Passes, owed, view_at, Gives, turns_of}
+use Rattle.cbpf_dbg.specs.Cursor.{Stands, Passes, owed, view_at, RepliesBy, turns_of}
 use Rattle.cbpf_dbg.proofs.GoingLemmas.{entry_first}
 use Rattle.cbpf_dbg.specs.Breakpoints.{Breakpoints}
 
@@ -71,7 +71,7 @@ turns_place m machine capture (Limit n) v u e = rw e refl
 turns_place m machine capture (Finished n) v u e = refl
 
 pub turns-reply : (machine : Machine) (c : Savefile) (breakpoints : Breakpoints) (answer : View → RunReply × View)
-    (old new : Cursor) (reply : RunReply) → Gives machine c breakpoints answer old new reply
+    (old new : Cursor) (reply : RunReply) → RepliesBy machine c breakpoints answer old new reply
     → turns_of machine c breakpoints answer old
     ≡ turns_in (view_at machine c breakpoints old) machine c.records (reply, view_at machine c breakpoints new)
 turns-reply machine c breakpoints answer old new reply h =

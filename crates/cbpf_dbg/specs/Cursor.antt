@@ -112,7 +112,7 @@ abbrev pub run_from : Machine → List Record → Option ℕ → View → RunRep
 run_from machine capture limit m = run_to m machine capture limit (stops_after machine capture m.breakpoints m.place)
 
 -- a command's reply, and the cursor after it, by what it answers from a view
-pub record Gives (machine : Machine) (c : Savefile) (breakpoints : Breakpoints) (answer : View → RunReply × View)
+pub record RepliesBy (machine : Machine) (c : Savefile) (breakpoints : Breakpoints) (answer : View → RunReply × View)
     (old new : Cursor) (reply : RunReply) : Type 0 where
   pub reply_is : reply ≡ (answer (view_at machine c breakpoints old)).0
   pub place_is : new.place ≡ (answer (view_at machine c breakpoints old)).1.place

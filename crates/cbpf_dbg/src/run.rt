@@ -11,7 +11,7 @@ ghost use Rattle.cbpf_dbg.specs.Commands.{AgreesWithStops};
 ghost use Rattle.cbpf_dbg.specs.Joined.{stops_after};
 ghost use Rattle.cbpf_dbg.specs.Loaded.{machine_in, records_in, breakpoints_in};
 ghost use Rattle.cbpf_dbg.specs.Session.{IsInside, KeepsTo};
-ghost use Rattle.cbpf_dbg.specs.Cursor.{Stands, Passes, Gives, run_from, turns_of, ComesTo};
+ghost use Rattle.cbpf_dbg.specs.Cursor.{Stands, Passes, RepliesBy, run_from, turns_of, ComesTo};
 ghost use Rattle.cbpf_machine.specs.Task.{entries_in, outcome_in};
 ghost use Rattle.cbpf_dbg.specs.Going.{CanGoOn, GoesOn, KeepsIn};
 
@@ -270,7 +270,7 @@ pub(crate) fn run_to_limit<T: Trail, A: Allocator>(
     ensures stands { Stands (machine_in loaded.now) (records_in loaded.now) cursor.new }
     ensures start { StartsAt (records_in loaded.now) cursor.new.place.packet cursor.new.start }
     ensures keeps { KeepsIn (λ xs. T.stands_for trail.new xs) loaded.now cursor.new.place }
-    ensures runs { Gives (machine_in loaded.now) loaded.now.capture.now (breakpoints_in loaded.now)
+    ensures runs { RepliesBy (machine_in loaded.now) loaded.now.capture.now (breakpoints_in loaded.now)
         (run_from (machine_in loaded.now) (records_in loaded.now) limit) cursor.old cursor.new result }
     ensures inside { IsInside (records_in loaded.now) cursor.new.place }
     ensures ahead { AgreesWithStops result

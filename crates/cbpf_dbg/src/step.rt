@@ -8,7 +8,7 @@ ghost use Rattle.cbpf_dbg.specs.Loaded.{machine_in, records_in};
 ghost use Rattle.cbpf_dbg.specs.Going.{KeepsIn};
 ghost use Rattle.cbpf_dbg.specs.Session.{IsInside};
 ghost use Rattle.cbpf_dbg.specs.Cursor.{Stands, AreLeft, Nears, owed};
-ghost use Rattle.cbpf_dbg.specs.Cursor.{Gives, step_from, turns_of, StepsBack, CannotStepBack};
+ghost use Rattle.cbpf_dbg.specs.Cursor.{RepliesBy, step_from, turns_of, StepsBack, CannotStepBack};
 
 use crate::cursor::{Cursor, Moved, Walk, advance, stop_at};
 use crate::loaded::Loaded;
@@ -83,7 +83,7 @@ pub(crate) fn step_on<T: Trail, A: Allocator>(
     ensures stands { Stands (machine_in loaded.now) (records_in loaded.now) cursor.new }
     ensures start { StartsAt (records_in loaded.now) cursor.new.place.packet cursor.new.start }
     ensures keeps { KeepsIn (λ xs. T.stands_for trail.new xs) loaded.now cursor.new.place }
-    ensures steps { (breakpoints : Breakpoints) → Gives (machine_in loaded.now) loaded.now.capture.now breakpoints
+    ensures steps { (breakpoints : Breakpoints) → RepliesBy (machine_in loaded.now) loaded.now.capture.now breakpoints
         (step_from (machine_in loaded.now) (records_in loaded.now) n) cursor.old cursor.new result }
     ensures inside { IsInside (records_in loaded.now) cursor.new.place }
     ensures turns { (breakpoints : Breakpoints) → meter.new

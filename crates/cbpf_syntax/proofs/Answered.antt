@@ -12,7 +12,7 @@ use Rattle.cbpf_syntax.specs.Steps.{Goes, Stuck, IsNextItem, starts_with_colon}
 use Rattle.cbpf_syntax.specs.Refusals.{is_large_at, IsLargeNegative, ItemsStuckAt}
 use Rattle.cbpf_syntax.proofs.Elements.{any_element, some_element}
 use Rattle.cbpf_syntax.proofs.Fronts.{fits_front}
-use Rattle.cbpf_syntax.proofs.Readings.{bare_item, reading_of, begins_by}
+use Rattle.cbpf_syntax.proofs.Readings.{bare_item, fits_so_far, begins_by}
 use Rattle.cbpf_syntax.proofs.Apart.{no_item}
 use Rattle.cbpf_syntax.proofs.Greedy.{Greedy}
 use Rattle.cbpf_syntax.proofs.Steps.{some_known, bare_front, bare_fits, name_stuck, label_stuck, label_item}
@@ -57,7 +57,7 @@ base_step t ts s = by_whole (cases_Bool (some_whole (take front.0 (t ∷ ts))))
           within = front.1;
           begins = begins_by (take front.0 (t ∷ ts)) (record { count = 0; row = r.0; known = r.1; fits = r.2 });
           no_farther = λ l b.
-              let r = reading_of (t ∷ take front.0 ts) b in
+              let r = fits_so_far (t ∷ take front.0 ts) b in
               let fit = bare_front r.count r.row t (take front.0 ts) s r.fits in
               both_ways _ (front.3 l)
               (any_element (λ r. fits_front (classes r) (t ∷ take front.0 ts)) table r.row r.known fit);

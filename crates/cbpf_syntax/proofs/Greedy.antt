@@ -12,7 +12,7 @@ use Rattle.cbpf_syntax.specs.Items.{Item, IsItem, Items, BeginsItem, BeginsItems
 use Rattle.cbpf_syntax.specs.Steps.{Goes, Stuck, IsNextItem}
 use Rattle.cbpf_syntax.specs.Refusals.{ItemsStuckAt}
 use Rattle.cbpf_syntax.proofs.Fronts.{fits_front, length_whole, length_front}
-use Rattle.cbpf_syntax.proofs.Readings.{classes_of, item_fits, reading_of}
+use Rattle.cbpf_syntax.proofs.Readings.{classes_of, item_fits, fits_so_far}
 use Rattle.cbpf_syntax.proofs.Apart.{overlap, apart, overlap_sound, starts_with_comma, comma_only, comma_items}
 use Rattle.cbpf_syntax.proofs.Apart.{readings_apart}
 
@@ -56,7 +56,7 @@ front_split cs ds ts x us y a f g e l = cc
 whole_first : (n : ℕ) (ts g y : List Lexeme) (j : Item) → Goes n ts → ts ≡ g ++ y → IsItem g j
     → (g ≡ take n ts) ⊎ (starts_with_comma y ≡ true)
 whole_first n ts g y j goes e form =
-    let ours = reading_of (take n ts) goes.begins in
+    let ours = fits_so_far (take n ts) goes.begins in
     let theirs = item_fits g j form in
     let front : length (take n ts) ≡ n = length-take-le n ts goes.within in
     let size : length ts ≡ length g + length y = ap length e ∙ length-append g y in

@@ -63,14 +63,14 @@ item_by (suc count) r [] k f = absurd cc
 -- What begins an item.
 
 -- the tokens fit labels and a row as far as they go
-pub record Reading (ts : List Lexeme) : Type 0 where
+pub record FitsSoFar (ts : List Lexeme) : Type 0 where
   pub count : ℕ
   pub row : Row
   pub known : Contains table row
   pub fits : fits_front (classes_of count row) ts ≡ true
 
-pub reading_of : (ts : List Lexeme) → BeginsItem ts → Reading ts
-reading_of ts b = record {
+pub fits_so_far : (ts : List Lexeme) → BeginsItem ts → FitsSoFar ts
+fits_so_far ts b = record {
   count = length b.1.labels;
   row = b.1.row;
   known = b.2.form.known;
@@ -104,7 +104,7 @@ completed (c ∷ cs) (t ∷ ts) f =
     (more.0, and_from (fits c t.symbol) (fits_all cs (ts ++ more.0)) p.0 more.1)
 completed [] (t ∷ ts) f = absurd cc
 
-pub begins_by : (ts : List Lexeme) → Reading ts → BeginsItem ts
+pub begins_by : (ts : List Lexeme) → FitsSoFar ts → BeginsItem ts
 begins_by ts b =
     let c = completed (classes_of b.count b.row) ts b.fits in
     let i = item_by b.count b.row (ts ++ c.0) b.known c.1 in

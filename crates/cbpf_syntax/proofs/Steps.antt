@@ -22,7 +22,7 @@ use Rattle.cbpf_syntax.specs.Choice.{IsBest}
 use Rattle.cbpf_syntax.specs.Steps.{Goes, Stuck, IsNextItem, starts_with_colon, starts_with_label}
 use Rattle.cbpf_syntax.specs.Views.{row_of, symbol_of, lexeme_of}
 use Rattle.cbpf_syntax.proofs.Fronts.{fits_front, whole_front, length_whole, front_whole, common_fits, common_most}
-use Rattle.cbpf_syntax.proofs.Readings.{Reading, classes_of, item_fits, bare_item, label_before, item_by, reading_of}
+use Rattle.cbpf_syntax.proofs.Readings.{FitsSoFar, classes_of, item_fits, bare_item, label_before, item_by, fits_so_far}
 use Rattle.cbpf_syntax.proofs.Readings.{begins_by}
 use Rattle.cbpf_syntax.proofs.Apart.{overlap_sound, row_starts, starts_reserved, no_item, equal_bytes, begins_none}
 use Rattle.cbpf_syntax.proofs.Apart.{table_some}
@@ -60,8 +60,8 @@ named_row r t f k n h = by_classes (classes r) (row_starts r k) h
 after_label : (t u : Lexeme) (ts : List Lexeme) → fits name t.symbol ≡ true → BeginsItem (t ∷ u ∷ ts) → BeginsItem ts
 after_label t u ts n b = by_count r.count r.row r.known r.fits
   where
-    r : Reading (t ∷ u ∷ ts)
-    r = reading_of (t ∷ u ∷ ts) b
+    r : FitsSoFar (t ∷ u ∷ ts)
+    r = fits_so_far (t ∷ u ∷ ts) b
 
     by_count : (m : ℕ) (r : Row) → Contains table r → fits_front (classes_of m r) (t ∷ u ∷ ts) ≡ true → BeginsItem ts
     by_count zero r k f = absurd (named_row r t (u ∷ ts) k n f)
@@ -111,7 +111,7 @@ name_stuck t ts a c = record {
   goes = record {
     within = omega arith;
     begins = begins_by (t ∷ []) (record { count = 1; row = some_known.0; known = some_known.1; fits = rw a refl });
-    no_farther = λ l b. let r = reading_of (t ∷ take 1 ts) b in farther ts c r.row r.known r.count r.fits (omega arith);
+    no_farther = λ l b. let r = fits_so_far (t ∷ take 1 ts) b in farther ts c r.row r.known r.count r.fits (omega arith);
   };
   none = λ i p. whole i p.form.known (length i.labels) (item_fits (t ∷ []) i p);
 }
@@ -173,7 +173,7 @@ module _ (w : List ℕ) (at : ℕ) (us : List Lexeme) (m : Mnemonic) (best : Mat
           fits = fit;
         });
         no_farther = λ l h.
-            let r = reading_of (lexeme w at ∷ take (suc best.len) us) h in
+            let r = fits_so_far (lexeme w at ∷ take (suc best.len) us) h in
             let k = most (suc best.len) r.row r.known (omega arith)
             (bare_front r.count r.row (lexeme w at) (take (suc best.len) us) no_name r.fits) in
             omega (arith, k.1);
@@ -216,7 +216,7 @@ none_begins t us s none = record {
   goes = record {
     within = omega arith;
     begins = begins_none some_known.0 some_known.1;
-    no_farther = λ l b. let r = reading_of (t ∷ []) b in
+    no_farther = λ l b. let r = fits_so_far (t ∷ []) b in
         none r.row r.known (and_parts _ _ (bare_front r.count r.row t [] s r.fits)).0;
   };
   none = no_item;

@@ -23,7 +23,7 @@ use Rattle.cbpf_syntax.specs.Table.{Row}
 use Rattle.cbpf_syntax.specs.Fits.{fits}
 use Rattle.cbpf_syntax.specs.Items.{Item}
 use Rattle.cbpf_syntax.proofs.Fronts.{fits_front}
-use Rattle.cbpf_syntax.proofs.Readings.{classes_of, reading_of}
+use Rattle.cbpf_syntax.proofs.Readings.{classes_of, fits_so_far}
 use Rattle.cbpf_syntax.proofs.Refused.{next_some, large_within, large_number}
 use Rattle.cbpf_syntax.specs.Views.{lexeme_of, row_of}
 use Rattle.cbpf_syntax.specs.Steps.{Goes, IsNextItem, Stuck, starts_with_label}
@@ -195,7 +195,7 @@ front_word m r f h1 h2 = search (rules, word_of, and_parts, name_of)
 goes_word : (n : ℕ) (ts : List Lexeme) → Goes n ts → 0 < n → StartsWithWord ts
 goes_word n [] g l = absurd (omega (arith, g.within))
 goes_word (suc n) (t ∷ ts) g l =
-    let r = reading_of (t ∷ take n ts) g.begins in front_word r.count r.row (t ∷ take n ts) r.fits (omega arith)
+    let r = fits_so_far (t ∷ take n ts) g.begins in front_word r.count r.row (t ∷ take n ts) r.fits (omega arith)
 goes_word zero ts g l = absurd (omega arith)
 
 pub stuck_within : (n : ℕ) (ts : List Lexeme) → Stuck n ts → n ≤ length ts

@@ -7,7 +7,7 @@ use Rattle.cbpf_syntax.specs.declared.token.LexFault.TheVariants.{Memory, At}
 use Rattle.cbpf_syntax.specs.Tokens.{LexesTo, Lexes, IsFirstBad, IsSpanOf}
 
 -- a text, and the place up to which it was read, in bytes from 0
-pub record Reading : Type 0 where
+pub record PartlyRead : Type 0 where
   pub text : List ℕ
   pub at : ℕ
 

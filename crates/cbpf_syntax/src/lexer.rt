@@ -27,9 +27,9 @@ pub struct Lexer<'a> {
 
 impl<'a> Model for Lexer<'a> {
     ghost use Rattle.std.specs.Prelude.{◌≤◌, length};
-    ghost use Rattle.cbpf_syntax.specs.TokenReading.{Reading};
+    ghost use Rattle.cbpf_syntax.specs.TokenReading.{PartlyRead};
 
-    ghost Value = { Reading };
+    ghost Value = { PartlyRead };
 
     ghost view = { λ l. record { text = l.text.now; at = l.at } };
 

@@ -2,7 +2,7 @@ use Rattle.std.proofs.Common.{◌≡◌, ◌≢◌, arith, inl, inr, ap, ◌∙�
 use Rattle.std.proofs.lemmas.Bool.{cases_lt}
 use Rattle.std.proofs.lemmas.Option.{slice_get_within}
 use Rattle.std.specs.Prelude.{slice_get}
-use Rattle.cbpf_machine.specs.Follow.{Knows, is_met}
+use Rattle.cbpf_machine.specs.Follow.{is_met}
 use Rattle.cbpf_machine.proofs.SoundLemmas.{sound_few, sound_known}
 use Rattle.cbpf_dbg.proofs.watching.watch.Goals as goal
 
