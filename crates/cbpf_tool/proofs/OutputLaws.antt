@@ -1,12 +1,11 @@
 -- Laws of the output of a script.
 use Rattle.std.proofs.Common.{◌≡◌, ℕ, length, List, [], ◌∷◌, ◌++◌, Option, Some, None, Result, Ok, Err, ◌⊎◌, inl, inr}
-use Rattle.std.proofs.Common.{refl, sym, ◌∙◌, ap, subst, append_assoc}
+use Rattle.std.proofs.Common.{refl, sym, ◌∙◌, ap, subst, append_assoc, arith}
 use Rattle.std.specs.FinMap as map
 use Rattle.cbpf_code.proofs.WordAnswerLemmas.{spells-once, spells-not_refused, refused-once}
 use Rattle.cbpf_code.proofs.FaultLemmas.{first_fault-unique}
 use Rattle.cbpf_code.proofs.AnswerLaws.{each_text_is_read, each_list_is_checked}
 use Rattle.cbpf_code.specs.declared.insn.Insn.{Insn}
-use Rattle.cbpf_tool.proofs.FileLemmas.{none-counted}
 use Rattle.cbpf_tool.specs.Commands.{command_of}
 use Rattle.cbpf_tool.specs.declared.command.Command.{Command}
 use Rattle.cbpf_tool.specs.declared.command.Command.TheVariants.{LoadWords, LoadCapture, Session, Quit}
@@ -17,16 +16,16 @@ use Rattle.pcap_classic.specs.declared.header.CaptureFault.{CaptureFault}
 use Rattle.pcap_classic.specs.declared.header.CaptureFault.TheVariants as capture_fault
 use Rattle.pcap_classic.proofs.SavefileLemmas as captures
 use Rattle.cbpf_tool.specs.FileMap.{Held}
-use Rattle.cbpf_tool.specs.Output.{at_end, at_quit, at_line}
+use Rattle.cbpf_tool.specs.Output.{Output, at_end, at_quit, at_line}
 use Rattle.cbpf_tool.specs.Replies.{Reply, LoadsWords, unreadable, unsound, accepted, ReadsCapture, no_capture}
-use Rattle.cbpf_tool.specs.Replies.{a_capture, LoadsCapture, OwnReply, own, unheld, unread}
+use Rattle.cbpf_tool.specs.Replies.{a_capture, LoadsCapture, OwnReply, LineReplies, own, unheld, unread}
 use Rattle.cbpf_tool.specs.SessionReplies.{reply_to}
 use Rattle.cbpf_reply.specs.Errors.{memory_text, command_fault_text, load_fault_text}
 use Rattle.cbpf_reply.specs.Errors.{word_fault_text, check_fault_text, capture_fault_text}
 use Rattle.cbpf_reply.specs.declared.errors.LoadFault.TheVariants.{Absent, Device}
 use Rattle.cbpf_reply.specs.Loads.{program_text, capture_text}
 use Rattle.cbpf_dbg.specs.Commands.{with_program_loaded, with_capture_loaded}
-use Rattle.cbpf_tool.specs.Laws.{OwnOutput, own_end, own_quit, own_line, IsPartOf, OneOwnOutput}
+use Rattle.cbpf_tool.specs.Laws.{HasOwnReply, IsPartOf, OneOwnOutput}
 use Rattle.cbpf_tool.specs.Laws.{NoOther, HasOwnOutput, OwnIsOutput}
 
 words-once : (m : View) (text : List ℕ) (r r' : Reply) → LoadsWords m text r → LoadsWords m text r' → r' ≡ r
@@ -76,16 +75,23 @@ quit-none : (files : Held) (m : View) (said : Result (Option Command) CommandFau
     → said ≡ Ok (Some Quit) → OwnReply files m said r → ⊥
 quit-none files m said r e h = subst (λ x. OwnReply files m x r) e h
 
-pub one_output : OneOwnOutput
-one_output files m [] t u own_end own_end = refl
-one_output files m (l ∷ ls) t u (own_quit _ _ q) (own_quit _ _ _) = refl
-one_output files m (l ∷ ls) t u (own_quit _ _ q) (own_line _ r a o) = absurd (quit-none files m (command_of l) r q a)
-one_output files m (l ∷ ls) t u (own_line _ r a o) (own_quit _ _ q) = absurd (quit-none files m (command_of l) r q a)
-one_output files m (l ∷ ls) t u (own_line {rest = rest} _ r a o) (own_line {rest = rest'} _ r' a' o') =
-    let same = own-once files m (command_of l) r r' a a' in
-    let tail : rest' ≡ rest =
-    one_output files r.1 ls rest rest' o (subst (λ (x : Reply). OwnOutput files x.1 ls rest') same o') in
+output-once : (files : Held) (m : View) (f g f' g' : ℕ) (ls : List (List ℕ)) (t u : List ℕ)
+    → Output (HasOwnReply files) m f ls t g → Output (HasOwnReply files) m f' ls u g' → u ≡ t
+output-once files m f g f' g' [] t u at_end at_end = refl
+output-once files m f g f' g' (l ∷ ls) t u (at_quit _ _ q) (at_quit _ _ _) = refl
+output-once files m f g f' g' (l ∷ ls) t u (at_quit _ _ q) (at_line _ r a o) =
+    absurd (quit-none files m (command_of l) r q a.1)
+output-once files m f g f' g' (l ∷ ls) t u (at_line _ r a o) (at_quit _ _ q) =
+    absurd (quit-none files m (command_of l) r q a.1)
+output-once files m f g f' g' (l ∷ ls) t u (at_line {g = k} {rest = rest} _ r a o)
+    (at_line {g = k'} {rest = rest'} _ r' a' o') =
+    let same = own-once files m (command_of l) r r' a.1 a'.1 in
+    let tail : rest' ≡ rest = output-once files r.1 k g k' g' ls rest rest' o
+    (subst (λ (x : Reply). Output (HasOwnReply files) x.1 k' ls rest' g') same o') in
     ap (λ (x : Reply). x.0 ++ rest') same ∙ ap (λ (x : List ℕ). r.0 ++ x) tail
+
+pub one_output : OneOwnOutput
+one_output files m ls t u o o' = output-once files m 0 0 0 0 ls t u (o 0) (o' 0)
 
 -- ---- there is one, and it is one of the outputs
 
@@ -127,20 +133,24 @@ own-some files m (Ok None) = inr (([], m), refl)
 own-some files m (Err e) = inr ((command_fault_text e, m), refl)
 
 pub has_output : HasOwnOutput
-has_output files m [] = ([], own_end)
+has_output files m [] = ([], λ f. at_end)
 has_output files m (l ∷ ls) =
     elim (own-some files m (command_of l)) [
-      | inl is_quit ↦ ([], own_quit l ls is_quit)
+      | inl is_quit ↦ ([], λ f. at_quit l ls is_quit)
       | inr reply ↦
           let rest = has_output files reply.0.1 ls in
-          (reply.0.0 ++ rest.0, own_line l reply.0 reply.1 rest.1)
+          (reply.0.0 ++ rest.0, λ f. at_line l reply.0 (refl, reply.1) (rest.1 f))
     ]
 
+own-among : (files : Held) (m : View) (f g : ℕ) (ls : List (List ℕ)) (t : List ℕ)
+    → Output (HasOwnReply files) m f ls t g → Output (LineReplies files) m f ls t g
+own-among files m f g ls t at_end = at_end
+own-among files m f g ls t (at_quit l more q) = at_quit l more q
+own-among files m f g ls t (at_line {g = k} {rest = rest} {ls = more} l r a o) =
+    at_line l r (own (omega (arith, a.0), λ _. a.0) a.1) (own-among files r.1 k g more rest o)
+
 pub own_is_output : OwnIsOutput
-own_is_output files m f ls t own_end = at_end
-own_is_output files m f ls t (own_quit l more q) = at_quit l more q
-own_is_output files m f ls t (own_line {rest = rest} {ls = more} l r a o) =
-    at_line l r (own (none-counted f) a) (own_is_output files r.1 f more rest o)
+own_is_output files m f ls t o = own-among files m f f ls t (o f)
 
 -- ---- an output in which neither of the two other replies stands
 
@@ -152,11 +162,11 @@ later-stands reply t rest h =
     (t ++ h.0, h.1, ap (λ (x : List ℕ). t ++ x) h.2 ∙ sym (append_assoc t h.0 (reply ++ h.1)))
 
 pub no_other : NoOther
-no_other files m f g ls t at_end memory device = own_end
-no_other files m f g ls t (at_quit l more q) memory device = own_quit l more q
+no_other files m f g ls t at_end memory device = λ h. at_end
+no_other files m f g ls t (at_quit l more q) memory device = λ h. at_quit l more q
 no_other files m f g ls t (at_line {g = mid} {rest = rest} {ls = more} l r (own k a) o) memory device =
-    own_line l r a (no_other files r.1 mid g more rest o
-    (λ h. memory (later-stands memory_text r.0 rest h)) (λ h. device (later-stands (load_fault_text Device) r.0 rest h)))
+    λ h. at_line l r (refl, a) (no_other files r.1 mid g more rest o (λ p. memory (later-stands memory_text r.0 rest p))
+    (λ p. device (later-stands (load_fault_text Device) r.0 rest p)) h)
 no_other files m f g ls t (at_line {rest = rest} l r (unheld k u w) o) memory device =
     absurd (memory (first-stands memory_text rest m r w))
 no_other files m f g ls t (at_line {rest = rest} l r (unread k u w) o) memory device =

@@ -100,7 +100,7 @@ unread-nil pending (Some xs) r n e = rw n at e
 
 module _ {script pending : List ℕ} {left old new : Option (List ℕ)} {m : View} {f g : FileSource}
     (p : Progress script pending left old new f g m) (new' : Option (List ℕ)) (k : Keeps new new') where
-  so_far : Output f.held empty_view f.failures p.done p.text g.failures
+  so_far : Output (LineReplies f.held) empty_view f.failures p.done p.text g.failures
   so_far = rw (← append-nil p.done, ← append-nil p.text) (p.ran [] [] g.failures at_end)
 
   -- the lines that were run, and their output

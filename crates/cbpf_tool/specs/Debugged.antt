@@ -5,6 +5,7 @@ use Rattle.cbpf_tool.specs.FileMap.{FileSource}
 use Rattle.cbpf_tool.specs.Lines.{lines, unlines, has_newline}
 use Rattle.cbpf_dbg.specs.View.{empty_view}
 use Rattle.cbpf_tool.specs.Output.{Output, HasQuit}
+use Rattle.cbpf_tool.specs.Replies.{LineReplies}
 use Rattle.cbpf_tool.specs.declared.fault.ToolFault.{ToolFault}
 use Rattle.cbpf_tool.specs.declared.fault.ToolFault.TheVariants.{Source as RefusedSource, Read, Write, Memory}
 
@@ -16,7 +17,7 @@ pub record Printed (script : List ℕ) (before after : FileSource) : Type 0 wher
   pub more : List (List ℕ)
   pub text : List ℕ
   pub split : lines script ≡ ls ++ more
-  pub output : Output before.held empty_view before.failures ls text after.failures
+  pub output : Output (LineReplies before.held) empty_view before.failures ls text after.failures
 
 -- after a read that failed: `left` is what the reader has left, and `old` and `new` are what the writer held and holds
 pub record ReadFailed (script : List ℕ) (left old new : Option (List ℕ)) (before after : FileSource) : Type 0 where

@@ -1,20 +1,22 @@
 -- The output of a script: the replies to its lines up to `quit`.
-use Rattle.std.specs.Prelude.{◌≡◌, ◌⊎◌, ℕ, List, [], ◌∷◌, ◌++◌, Some, Ok}
+use Rattle.std.specs.Prelude.{◌≡◌, ◌⊎◌, ℕ, List, [], ◌∷◌, ◌++◌, Option, Some, Result, Ok}
 use Rattle.cbpf_tool.specs.Commands.{command_of}
+use Rattle.cbpf_tool.specs.declared.command.Command.{Command}
 use Rattle.cbpf_tool.specs.declared.command.Command.TheVariants.{Quit}
-use Rattle.cbpf_tool.specs.FileMap.{Held}
+use Rattle.cbpf_reply.specs.declared.errors.CommandFault.{CommandFault}
 use Rattle.cbpf_dbg.specs.View.{View}
-use Rattle.cbpf_tool.specs.Replies.{Reply, LineReplies}
+use Rattle.cbpf_tool.specs.Replies.{Reply}
 
--- the text of the replies to some lines, from what is loaded before them, while the count of failures
--- goes from one number to another
-pub data Output (files : Held) : View → ℕ → List (List ℕ) → List ℕ → ℕ → Type 0 where
-  at_end : {m : View} {f : ℕ} → Output files m f [] [] f
+-- the text of the replies to some lines, from what is loaded before them, while the count of failures goes from one
+-- number to another; `Replies` says which replies a line can have
+pub data Output (Replies : View → ℕ → ℕ → Result (Option Command) CommandFault → Reply → Type 0)
+    : View → ℕ → List (List ℕ) → List ℕ → ℕ → Type 0 where
+  at_end : {m : View} {f : ℕ} → Output Replies m f [] [] f
   at_quit : {m : View} {f : ℕ} (l : List ℕ) (ls : List (List ℕ)) → command_of l ≡ Ok (Some Quit)
-      → Output files m f (l ∷ ls) [] f
+      → Output Replies m f (l ∷ ls) [] f
   at_line : {m : View} {f g h : ℕ} {rest : List ℕ} {ls : List (List ℕ)} (l : List ℕ) (reply : Reply)
-      → LineReplies files m f g (command_of l) reply → Output files reply.1 g ls rest h
-      → Output files m f (l ∷ ls) (reply.0 ++ rest) h
+      → Replies m f g (command_of l) reply → Output Replies reply.1 g ls rest h
+      → Output Replies m f (l ∷ ls) (reply.0 ++ rest) h
 
 -- one of the lines is `quit`
 abbrev pub HasQuit : List (List ℕ) → Type 0

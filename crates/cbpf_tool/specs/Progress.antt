@@ -75,6 +75,6 @@ pub record Progress (script pending : List ℕ) (left old new : Option (List ℕ
   pub kept : Kept f g
   pub no_quit : ¬ HasQuit done
   -- the output of more lines comes after the text
-  pub ran : (ls : List (List ℕ)) (t : List ℕ) (h : ℕ) → Output f.held m g.failures ls t h
-      → Output f.held empty_view f.failures (done ++ ls) (text ++ t) h
+  pub ran : (ls : List (List ℕ)) (t : List ℕ) (h : ℕ) → Output (LineReplies f.held) m g.failures ls t h
+      → Output (LineReplies f.held) empty_view f.failures (done ++ ls) (text ++ t) h
   pub wrote : Appended old new text
