@@ -100,7 +100,7 @@ IsFaultOf kinds (Refused text) =
     (kind : ErrorKind) × IsRefusalKind kind × IsAmong kind kinds
 IsFaultOf kinds Memory = Unit {0}
 
--- two faults of the same kind, with the same text
+-- both are `Help` or both are `Refused`, with the same text; or both are `Memory`
 abbrev pub IsSameFault : LineFault → LineFault → Type 0
 IsSameFault (Help a) (Help b) = text_of a ≡ text_of b
 IsSameFault (Refused a) (Refused b) = text_of a ≡ text_of b

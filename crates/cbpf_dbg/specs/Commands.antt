@@ -168,8 +168,8 @@ resume m place =
     where_loaded m (λ machine capture. if length capture == 0 then Err fault.NoPackets
     else (if has_packet capture place.packet then resume_in m machine capture place else Err fault.NoPacket))
 
--- A place that `resume` takes wherever this program, these values and this capture are loaded, as it does each place that
--- `mark` answers. Of a capture that has no packets `mark` answers the start, which `resume` refuses.
+-- Wherever this program, these values and this capture are loaded, `resume` takes the place, or answers that the capture
+-- has no packets. Each place that `mark` answers is such a one.
 abbrev pub IsResumable : View → Place → Type 0
 IsResumable m place = (n : View) → n.program ≡ m.program → n.values ≡ m.values → n.capture ≡ m.capture
     → IsOk (resume n place) ⊎ (resume n place ≡ Err fault.NoPackets)

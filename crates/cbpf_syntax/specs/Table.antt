@@ -1,7 +1,8 @@
 -- The table of instructions in the kernel's Documentation/networking/filter (BPF engine and instruction set): for
 -- each mnemonic its addressing modes, each with its operation and its forms, all options written out. This project's
 -- own are `ldi` and `ldxi` with a bare number, `[%x + n]`, extensions for `ldh` and `ldb`, signs, of which the kernel's
--- examples have that of `#-1` alone, and the spellings of 4 and 15. Of the extensions for `ldx` only `len` is here.
+-- examples have that of `#-1` alone, and other spellings of 4 and 15 in `4*([n]&0xf)`. Of the extensions for `ldx` only
+-- `len` is here.
 use Rattle.std.specs.Prelude.{ℕ, List, [], ◌∷◌, ◌++◌, map, codes, flat_map}
 use Rattle.cbpf_code.specs.declared.opcode.Op.{Op}
 use Rattle.cbpf_code.specs.declared.opcode.Op.TheVariants.{LdImm, LdAbs, LdInd, LdMem, LdLen, LdxImm, LdxMem, LdxLen}

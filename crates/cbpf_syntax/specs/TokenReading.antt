@@ -11,9 +11,10 @@ pub record PartlyRead : Type 0 where
   pub text : List ℕ
   pub at : ℕ
 
--- What comes after a place `at` of a text is one of the next three. They speak of the tokens that the text has up to there:
--- none up to 0, and one more up to each place to which a call of `Lexer::next_token` leads that gives a token. No tokens go
--- up to a place inside a piece, and there they say nothing.
+-- What comes after a place `at` of a text is one of the next three. They speak of each list of tokens that the text has up
+-- to there. That is the empty list up to 0, and one with a token more up to each place to which a call of
+-- `Lexer::next_token` leads that gives a token. Up to a place inside a piece there is no list, not even an empty one. So
+-- there these three say nothing of tokens.
 
 -- whatever tokens the text has up to `at`, up to `to` it has these and this one
 pub record IsNextToken (text : List ℕ) (at to : ℕ) (token : Token) : Type 0 where
@@ -26,7 +27,7 @@ pub record IsNextToken (text : List ℕ) (at to : ℕ) (token : Token) : Type 0 
 abbrev pub HasNoMore : List ℕ → ℕ → Type 0
 HasNoMore text at = (tokens : List Token) → LexesTo text at tokens → Lexes text tokens
 
--- the first bad piece of the text, where the text up to the place has tokens; out of memory is none
+-- the first bad piece of the text, where the text up to the place can be cut into tokens; out of memory is none
 abbrev pub IsNextFault : List ℕ → ℕ → LexFault → Type 0
 IsNextFault text at Memory = ⊥
 IsNextFault text at (At fault line) = (tokens : List Token) → LexesTo text at tokens → IsFirstBad text fault line

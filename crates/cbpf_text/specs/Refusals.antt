@@ -106,7 +106,7 @@ abbrev pub IsRefused : List ℕ → AsmFault → Type 0
 IsRefused text faults.Memory = Unit {0}
 IsRefused text (faults.At kind line) = IsTextFault text kind line
 
--- why a text has no tokens; out of memory says nothing
+-- why a text can't be cut into tokens; out of memory says nothing
 abbrev pub IsLexRefused : List ℕ → AsmFault → Type 0
 IsLexRefused text faults.Memory = Unit {0}
 IsLexRefused text (faults.At kind line) = (bad : BadPiece) × (kind ≡ bad_piece_kind bad) × IsFirstBad text bad line

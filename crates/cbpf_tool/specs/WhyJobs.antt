@@ -84,7 +84,7 @@ pub record NotOpened {X : Type 0} (old new : Hosted) (name : List ℕ) (r : Resu
   pub names : IsUnopened name failure
   pub event : new ≡ and_then old (not_opened name ∷ [])
 
--- the file of the filter was opened and read, or could not be opened
+-- the file of the filter could not be opened; or it was opened, and `IsProgram` says what came of its text
 abbrev pub OpensFilter : Hosted → Hosted → List ℕ → Result (List Insn) WhyFailure → Type 0
 OpensFilter old new name r = NotOpened old new name r
     ⊎ ((text : List ℕ) × (map.get old.files name ≡ Some text) × (new ≡ and_then old (opened name ∷ []))
@@ -149,7 +149,8 @@ ReportsBy old new q (Some name) r = NotOpened old new name r
 abbrev pub query_by : WhyJob → List Insn → Query
 query_by job p = record { report = job.report; ranges = job.packets.items; machine = machine_of p job.values }
 
--- `why`: the filter is opened and read first; where it isn't accepted, that is all, and else the capture is reported on
+-- `why`: the file of the filter is opened first; where it gives no program, that is all, and else the capture is reported
+-- on
 pub record WhyDone (old new : Hosted) (job : WhyJob) (r : Result (Option Remarks) WhyFailure) : Type 0 where
   pub mid : Hosted
   pub filter : Result (List Insn) WhyFailure
