@@ -142,8 +142,8 @@ abbrev pub request_meaning : RequestWords → Requested
 request_meaning (request.Job j) = job (meaning j)
 request_meaning (request.Why w) = why (why_meaning w)
 
--- a line whose subcommand isn't `why` asks for the same job as without `why`, or has a fault of one of the kinds that it
--- may have there; the texts of faults may differ, as the help lists `why`
+-- A line whose subcommand isn't `why` asks for the same job as without `why`, and has no fault there. Or it has a fault of
+-- one of the kinds that it may have there, or there was no memory. The texts of faults may differ, as the help lists `why`.
 abbrev pub AnswersAsWithoutWhy : List Text → Result RequestWords LineFault → Type 0
 AnswersAsWithoutWhy words result = names_why words ≡ false
     → MatchResult result (λ r. (request_meaning r ≡ job (asked_for words)) × (faults_in words ≡ []))

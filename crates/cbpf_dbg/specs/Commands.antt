@@ -113,7 +113,7 @@ entry_in machine (Some r) place =
 abbrev pub back_place : Place → ℕ → Place
 back_place place b = record { packet = place.packet; step = place.step - b }
 
--- the stop at an entry of the packet, or so many steps back are possible
+-- the stop at an entry of the packet; or where there is none, a refusal that says how many steps back are possible
 abbrev pub back_at : View → Option Entry → Answer RunReply
 back_at m None = Err (fault.TooFarBack (m.place.step - 1))
 back_at m (Some e) = Ok (stopped m (stop_at why.Step e))

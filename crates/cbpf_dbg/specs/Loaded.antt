@@ -1,5 +1,5 @@
--- The machine, the records and the breakpoints of what is loaded, over which the view of `Stops` and a session's commands
--- go.
+-- The machine, the records and the breakpoints of a `Loaded` (src/loaded.rt). The commands of a session and its iterator
+-- `Stops` (src/stops.rt) go over these.
 use Rattle.std.specs.Prelude.{List}
 use Rattle.cbpf_machine.specs.Machine.{Machine, machine_of}
 use Rattle.pcap_classic.specs.Records.{Record}

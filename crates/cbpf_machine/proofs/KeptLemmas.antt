@@ -1,12 +1,11 @@
 -- Trails that ignore what is between two of their states.
-use Rattle.std.proofs.Common.{◌≡◌, ℕ, zero, suc, ◌+◌, ◌-◌, ◌*◌, ◌%◌, ◌<◌, ◌≤◌, ◌⊎◌, inl, inr, List, [], ◌∷◌, ◌++◌}
+use Rattle.std.proofs.Common.{◌≡◌, ℕ, zero, suc, ◌+◌, ◌-◌, ◌<◌, ◌≤◌, List, [], ◌∷◌, ◌++◌}
 use Rattle.std.proofs.Common.{length, take, length-take, length-append, append_assoc, refl, ap, sym, subst, ◌∙◌, arith}
 use Rattle.std.specs.Prelude.{Some, slice_get, replicate}
 use Rattle.std.proofs.lemmas.Option.{slice_get_within}
 use Rattle.std.proofs.lemmas.List.{take-take, take-append-le, length-replicate, replicate_more}
 use Rattle.cbpf_machine.specs.Registers.{Registers}
-use Rattle.cbpf_machine.specs.Trail.{IgnoresBetween, AreCheckpoints}
-use Rattle.cbpf_machine.specs.declared.mark_trail.TheConstants.{STRIDE}
+use Rattle.cbpf_machine.specs.Trail.{IgnoresBetween}
 use Rattle.cbpf_machine.proofs.ListLemmas.{slice_get-take}
 
 pub ignores_fewer : {T : Type 0} (stands : T → List Registers → Type 0) (k m n : ℕ) → m ≤ n
@@ -74,24 +73,3 @@ ignored stands t k n xs s some h at added =
     (take-append-le k (take k xs) (replicate n s) (omega arith) ∙ take-take k k xs (omega arith)
     ∙ sym (take-take k (k + n) xs (omega arith)))
     (one ∙ sym other) added
-
--- ---- marks
-
-before_or_not : (a b : ℕ) → (a < b) ⊎ (b ≤ a)
-before_or_not a zero = inr (omega arith)
-before_or_not zero (suc b) = inl (omega arith)
-before_or_not (suc a) (suc b) = elim (before_or_not a b) [ inl h ↦ inl (omega arith) | inr h ↦ inr (omega arith) ]
-
-pub ignores_marks : (k n : ℕ) → 1 ≤ k → n ≤ STRIDE - (k - 1) % STRIDE → IgnoresBetween AreCheckpoints k n
-ignores_marks k n some near = λ t xs ys long within front last are. record {
-  long = sym long ∙ are.long;
-  stored = are.stored;
-  at = λ j low. are.at j low ∙ elim (before_or_not (STRIDE * j) k) [
-    | inl h ↦ sym (slice_get-take xs k (STRIDE * j) h) ∙ ap (λ l. slice_get l (STRIDE * j)) front
-        ∙ slice_get-take ys k (STRIDE * j) h
-    | inr h ↦
-        let e : STRIDE * j ≡ length xs - 1 = omega (arith, h, low, are.stored, are.long, within, near, some) in
-        let f : length ys - 1 ≡ STRIDE * j = omega (arith, e, long) in
-        ap (λ i. slice_get xs i) e ∙ last ∙ ap (λ i. slice_get ys i) f
-  ];
-}

@@ -26,8 +26,8 @@ pub record Shown : Type 0 where
   pub wire : ℕ
   pub why : Why
 
--- the place, and its instruction in decimal and as the listing has it; nothing where the program has no such instruction,
--- which no stop that can be shown has
+-- The place, and its instruction in decimal and as the listing has it. It is nothing where the program has no such
+-- instruction. A stop that can be shown has one.
 abbrev pub place_lines : ℕ → ℕ → ℕ → List ℕ → Option Insn → List ℕ
 place_lines packet step pc line None = []
 place_lines packet step pc line (Some i) =

@@ -1,4 +1,4 @@
--- Laws of the cut: a text has one, and so one list of tokens or one first bad piece.
+-- Laws of the cut: a text has at most one; and it has one list of tokens or one first bad piece, never both.
 use Rattle.std.specs.Prelude.{◌≡◌, ◌⊎◌, ℕ, List, length}
 use Rattle.cbpf_syntax.specs.declared.piece.Piece.{Piece}
 use Rattle.cbpf_syntax.specs.declared.token.Token.{Token}

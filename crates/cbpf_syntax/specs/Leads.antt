@@ -5,7 +5,7 @@ use Rattle.cbpf_syntax.specs.declared.piece.Lead.TheVariants.{Blank, LineComment
 use Rattle.cbpf_code.specs.WordTokens.{is_blank, is_digit}
 use Rattle.cbpf_syntax.specs.Bytes.{is_letter, is_mark}
 
--- A `;` is 59, a `#` 35 and a `/` 47. `fresh` says that the line before the byte has only blanks.
+-- A `;` is 59, a `#` 35 and a `/` 47. `fresh` says that only blanks stand before the byte on its line.
 unfoldable pub lead_of : Bool → ℕ → Lead
 lead_of fresh b =
     if is_blank b then Blank

@@ -73,7 +73,8 @@ one c = (c ∷ []) ∷ []
 abbrev pub one_mark : ℕ → List (List Class)
 one_mark b = one (the_mark b)
 
--- the marks that stand by themselves
+-- marks of operands, each as a form of its own, which `·` joins with others; where a mark may be left out, the form itself
+-- has it
 abbrev open_bracket : List (List Class)
 open_bracket = one_mark 91
 

@@ -11,10 +11,9 @@ pub record PartlyRead : Type 0 where
   pub text : List ℕ
   pub at : ℕ
 
--- What comes after a place `at` of a text is one of the next three. They speak of each list of tokens that the text has up
--- to there. That is the empty list up to 0, and one with a token more up to each place to which a call of
--- `Lexer::next_token` leads that gives a token. Up to a place inside a piece there is no list, not even an empty one. So
--- there these three say nothing of tokens.
+-- What comes after a place `at` of a text is one of the next three. They speak of the tokens that the text has up to there.
+-- There is one list of these up to 0, and up to the end of each piece that isn't bad and has no bad piece before it. A `Lexer`
+-- stands only at such places. Up to any other place there is no list, so there these three say nothing of tokens.
 
 -- whatever tokens the text has up to `at`, up to `to` it has these and this one
 pub record IsNextToken (text : List ℕ) (at to : ℕ) (token : Token) : Type 0 where

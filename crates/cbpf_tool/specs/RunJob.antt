@@ -36,7 +36,7 @@ abbrev pub RequestDone : Hosted → Hosted → Request → Result (Option Remark
 RequestDone old new (AJob job) r = (done : Result (Unit {0}) Failure) × JobDone old new job done × (r ≡ as_request done)
 RequestDone old new (Why job) r = WhyDone old new job r
 
--- a request was done, and the capture has each packet that was asked for
+-- a request succeeded, and the capture has each packet that was asked for
 abbrev pub is_done : Result (Option Remarks) WhyFailure → Bool
 is_done (Ok None) = true
 is_done (Ok (Some remarks)) = not (lacks_packets remarks)

@@ -24,7 +24,7 @@ unfoldable pub reply_and_view : {R : Type 0} → (R → View → List ℕ) → V
 reply_and_view text m (Ok a) = (text a.0 a.1, a.1)
 reply_and_view text m (Err e) = (session_fault_text e, m)
 
--- the same of a command that only asks
+-- the text alone, for a command that only asks and so leaves the view
 unfoldable pub reply_text : {R : Type 0} → (R → List ℕ) → Result R SessionFault → List ℕ
 reply_text text (Ok r) = text r
 reply_text text (Err e) = session_fault_text e

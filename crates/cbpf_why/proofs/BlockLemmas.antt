@@ -1,8 +1,8 @@
 -- Marks at the beginnings of blocks.
 use Rattle.std.proofs.Common.{◌≡◌, ℕ, zero, suc, ◌+◌, ◌≤◌, List, [], ◌∷◌, ◌++◌, length, take, arith, refl, sym, ap, ◌∙◌, take_all}
-use Rattle.std.specs.Prelude.{Bool, true, false, ◌||◌, ◌==◌, if◌then◌else◌, slice_get, Some}
+use Rattle.std.specs.Prelude.{Bool, true, false, ◌||◌, ◌==◌, slice_get, Some}
 use Rattle.cbpf_code.specs.declared.insn.Insn.{Insn}
-use Rattle.cbpf_why.specs.Graph.{begins_block, block_of, opens}
+use Rattle.cbpf_why.specs.Graph.{begins_block, opens}
 use Rattle.cbpf_machine.proofs.ListLemmas.{take-slice_get}
 use Rattle.std.proofs.lemmas.List.FromFn.{length-enumerate_from}
 use Rattle.std.specs.List.{list_any, enumerate_from}
@@ -23,12 +23,6 @@ pub ruleset blocks = (or-assoc, or-false, or-three)
 pub any-more : {X : Type 0} (p : X → Bool) (xs : List X) (y : X) → list_any p (xs ++ y ∷ []) ≡ (list_any p xs || p y)
 any-more p [] y = or-false (p y)
 any-more p (x ∷ xs) y = ap (λ b. p x || b) (any-more p xs y) ∙ sym (or-assoc (p x) (list_any p xs) (p y))
-
--- the block of an instruction, by that of the one before
-pub block_next : (list : List Insn) (i before : ℕ) → ((j : ℕ) → i ≡ j + 1 → before ≡ block_of list j)
-    → (if begins_block list i then i else before) ≡ block_of list i
-block_next list zero before h = refl
-block_next list (suc i) before h = rw (h i (omega arith)) refl
 
 enum_at : (list : List Insn) (a i : ℕ) (x : Insn) → slice_get list i ≡ Some x → slice_get (enumerate_from a list) i ≡ Some (a + i, x)
 enum_at [] a i x h = absurd cc

@@ -58,12 +58,7 @@ tallies-more old new m records r had packets long ran held = record {
       ∙ ap (λ (n : ℕ). record { executed = executed m (records ++ r ∷ []) i; taken = n }) t;
 }
 
--- what is kept where a report counts nothing
 module _ {A P : Type 0} (q : Question P) where
-  pub took-none : (c : Counted A) (records more : List Record) → counts_groups q.report ≡ false → counts_runs q.report ≡ false
-      → Took q c records → Took q c more
-  took-none c records more g s t = record { groups = rw g (rw g at t.groups); runs = rw s (rw s at t.runs) }
-
   -- a packet more in the groups
   pub took-groups : (old new : Counted A) (records : List Record) (r : Record) → counts_groups q.report ≡ true
       → counts_runs q.report ≡ false → Took q old records → new.tally ≡ old.tally

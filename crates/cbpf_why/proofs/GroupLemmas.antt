@@ -1,5 +1,5 @@
 -- What one packet more does to what is kept of groups.
-use Rattle.std.proofs.Common.{◌≡◌, ◌≢◌, ℕ, ◌+◌, ◌<◌, ◌≤◌, List, [], ◌∷◌, ◌++◌, length, Option, Some, None, arith, refl, sym, ap, ◌∙◌, append-nil, length-append, get_or}
+use Rattle.std.proofs.Common.{◌≡◌, ◌≢◌, ℕ, ◌+◌, ◌<◌, List, [], ◌∷◌, ◌++◌, length, Option, Some, None, arith, refl, sym, ap, ◌∙◌, append-nil, length-append, get_or}
 use Rattle.std.specs.Prelude.{Bool, true, false, filter, ◌==◌, ◌&&◌, if◌then◌else◌, slice_get, slice_set, IfSome}
 use Rattle.std.proofs.lemmas.List.Elements.{filter-append}
 use Rattle.std.proofs.lemmas.List.Sums.{length-filter, count_by-le-length}
@@ -98,10 +98,6 @@ count-no : (v : Verdict) (ends : List Ended) (e : Ended) → is_verdict v (verdi
 count-no v ends e h =
     let p = λ (x : Ended). is_verdict v (verdict_of x.reason) in
     sym (length-filter p (ends ++ e ∷ [])) ∙ ap length (filter-no p ends e h) ∙ length-filter p ends
-
--- each total is at most the number of packets
-pub total_count : (ends : List Ended) (v : Verdict) → count_of ends v ≤ length ends
-total_count ends v = count_by-le-length (λ x. is_verdict v (verdict_of x.reason)) ends
 
 module _ (k : AllKept) (added : List Group) (n : ℕ) (ends : List Ended) (e : Ended) (keeps : Keeps k n ends) where
   pub keeps_pass : verdict_of e.reason ≡ Pass → AreGroups (ends ++ e ∷ []) (verdict_of e.reason) added

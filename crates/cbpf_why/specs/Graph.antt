@@ -53,7 +53,7 @@ is_last list i = (i + 1 == length list) || begins_block list (i + 1)
 
 -- ---- text in a label
 
--- a byte of a label: `&` begins an entity, `<` and `>` a tag, and a tab is a space
+-- a byte of a text as a label has it: `&`, `<` and `>` are written as entities, and a tab as a space
 abbrev pub label_byte : ℕ → List ℕ
 label_byte b =
     if b == 38 then codes "&amp;" else (if b == 60 then codes "&lt;" else (if b == 62 then codes "&gt;"

@@ -18,7 +18,8 @@ micros_magic = 0xa1b2c3d4
 abbrev pub nanos_magic : ℕ
 nanos_magic = 0xa1b23c4d
 
--- the first four bytes are, in this byte order, the magic number of nanoseconds, or that of microseconds
+-- the first four bytes are, in this byte order, the magic number of nanoseconds where `nanos` is true, and else that of
+-- microseconds
 abbrev pub HasMagic : Endianness → Bool → List ℕ → Type 0
 HasMagic order nanos file = number_at order 0 4 file ≡ (if nanos then nanos_magic else micros_magic)
 
