@@ -21,7 +21,8 @@ use Rattle.cbpf_command_line.specs.declared.job.LineFault.TheVariants.{Help, Ref
 abbrev pub flag_rule : Text → ℕ → Rule
 flag_rule id letter = record (new_rule id) { short = Some letter; action = Some SetTrue }
 
--- a file's name, which may be left out
+-- a file's name: a new rule has no flag, takes one value, and may be left out; `value_names` is for the help, and limits
+-- nothing here
 abbrev pub file_rule : Text → Rule
 file_rule id = record (new_rule id) { value_names = 1 }
 

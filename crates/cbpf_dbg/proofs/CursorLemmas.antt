@@ -1,21 +1,17 @@
 -- Moves of a cursor.
-use Rattle.std.proofs.Common.{◌≡◌, ℕ, ◌+◌, ◌-◌, ◌<◌, ◌≤◌, List, arith, ap, ◌∙◌, subst, refl}
-use Rattle.std.specs.Prelude.{Some, None, slice_get}
+use Rattle.std.proofs.Common.{◌≡◌, ℕ, ◌-◌, ◌<◌, ◌≤◌, List, arith, subst, refl}
+use Rattle.std.specs.Prelude.{Some, slice_get}
 use Rattle.std.proofs.lemmas.Option.{slice_get_within}
 use Rattle.cbpf_machine.specs.Machine.{Machine}
 use Rattle.cbpf_machine.specs.Registers.{Registers, zero_state}
-use Rattle.cbpf_machine.specs.declared.outcome.Turn.TheVariants.{Next}
-use Rattle.cbpf_machine.specs.Turn.{turn}
-use Rattle.cbpf_machine.specs.Trace.{trace, outcome, next_of, outcome_of}
+use Rattle.cbpf_machine.specs.Trace.{trace, outcome}
 use Rattle.cbpf_machine.specs.OnPacket.{OnPacket, IsOnTrace}
-use Rattle.cbpf_machine.proofs.TraceLemmas.{first_entry, goes_from_entry, goes_next, goes_at, goes_last, outcome_at_last}
+use Rattle.cbpf_machine.proofs.TraceLemmas.{first_entry, goes_from_entry}
 use Rattle.pcap_classic.specs.Records.{Record}
 use Rattle.cbpf_reply.specs.declared.reply.Counts.{Counts}
 use Rattle.cbpf_dbg.specs.declared.cursor.Cursor.{Cursor}
-use Rattle.cbpf_dbg.specs.declared.cursor.Moved.TheVariants as moved
-use Rattle.cbpf_dbg.specs.Joined.{entries_after, counts}
-use Rattle.cbpf_dbg.specs.Cursor.{Stands, Moves, entered, stepped, passed}
-use Rattle.cbpf_dbg.proofs.JoinedLemmas.{ahead-entry, ahead-leave, place_at}
+use Rattle.cbpf_dbg.specs.Joined.{counts}
+use Rattle.cbpf_dbg.specs.Cursor.{Stands, entered, passed}
 use Rattle.cbpf_dbg.proofs.CountLemmas.{counts-more}
 
 -- what is known of a cursor and the record of its packet
@@ -64,51 +60,6 @@ module _ (machine : Machine) (capture : List Record) (w : Cursor) (r : Record) (
 
   pub stands-entered : Stands machine capture (entered w)
   stands-entered = stands_at 1 zero_state (first_entry task h.sound)
-
-  pub moves-entered : w.place.step ≡ 0 → Moves machine capture w moved.Entry (entered w)
-  moves-entered step = (
-    r,
-    at,
-    refl,
-    omega (arith, step),
-    ap (λ k. entries_after machine capture (place_at w.place.packet k)) step
-        ∙ ahead-entry machine capture w.place.packet 0 r zero_state packet_from_one at
-        (first_entry task h.sound),
-  )
-
-  module _ (inside : 0 < w.place.step) where
-    next_entry : (t : Registers) → turn machine r.bytes r.wire w.state ≡ Next t
-        → slice_get (trace machine r.bytes r.wire) w.place.step ≡ Some t
-    next_entry t e =
-        let i : w.place.step - 1 + 1 ≡ w.place.step = omega (arith, inside) in
-        rw i at (goes_at (goes_next (goes inside) t e))
-
-    pub stands-stepped : (t : Registers) → turn machine r.bytes r.wire w.state ≡ Next t
-        → Stands machine capture (stepped w t)
-    stands-stepped t e =
-        let i : w.place.step + 1 - 1 ≡ w.place.step = omega arith in
-        stands_at (w.place.step + 1) t (rw i (next_entry t e))
-
-    pub moves-stepped : (t : Registers) → turn machine r.bytes r.wire w.state ≡ Next t
-        → Moves machine capture w moved.Entry (stepped w t)
-    moves-stepped t e = (
-      r,
-      at,
-      refl,
-      refl,
-      ahead-entry machine capture w.place.packet w.place.step r t packet_from_one at (next_entry t e),
-    )
-
-    module _ (none : next_of (turn machine r.bytes r.wire w.state) ≡ None) where
-      pub stands-left : Stands machine capture (passed w (outcome_of (turn machine r.bytes r.wire w.state)))
-      stands-left = subst (λ o. Stands machine capture (passed w o))
-          (outcome_at_last (goes inside) none) stands-passed
-
-      pub moves-left : Moves machine capture w moved.Packet (passed w (outcome_of
-          (turn machine r.bytes r.wire w.state)))
-      moves-left =
-          let last = goes_last (goes inside) none in
-          (refl, ahead-leave machine capture w.place.packet w.place.step r packet_from_one at (omega (arith, last, inside)))
 
 pub counts-at : (machine : Machine) (capture : List Record) (n : ℕ)
     → ◌≡◌ {A = Counts} (record { passes = 0; fails = 0; unknown = 0 }) (counts machine capture n n)

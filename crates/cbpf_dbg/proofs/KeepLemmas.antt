@@ -44,18 +44,6 @@ keeps_to stands machine capture w r h at begun keeps = record {
   stands = keeps r at;
 }
 
--- fewer than MAX_INSTRUCTIONS are kept before the last entry
-pub keeps_few : (machine : Machine) (capture : List Record) (old : Place) (w : Cursor) (r : Record) (kept : ℕ)
-    → Stands machine capture w → slice_get capture (w.place.packet - 1) ≡ Some r → w.place.step ≡ old.step + 1
-    → length (take old.step (trace machine r.bytes r.wire)) ≡ kept → kept < MAX_INSTRUCTIONS
-keeps_few machine capture old w r kept h at step e =
-    let here = entry_at_place machine capture w r h at (omega (arith, step)) in
-    let i : w.place.step - 1 ≡ old.step = omega (arith, step) in
-    let entry : slice_get (trace machine r.bytes r.wire) old.step ≡ Some w.state = rw i at here in
-    let within = slice_get_within (trace machine r.bytes r.wire) old.step w.state entry in
-    let few = length-trace_from machine r.bytes r.wire zero_state in
-    omega (arith, within, few, sound_few machine.list h.sound, e, length-take old.step (trace machine r.bytes r.wire))
-
 pub keeps_clear : (after : List Registers → Type 0) (machine : Machine) (capture : List Record) (new : Place)
     → new.step ≡ 0 → after [] → Keeps after machine capture new
 keeps_clear after machine capture new step h = λ r at. rw step h
@@ -82,3 +70,10 @@ pub keeps_as_many : (stands : List Registers → Type 0) (xs : List Registers) (
 keeps_as_many stands xs k s kept at long =
     let from_one = at.from_one in
     omega (arith, slice_get_within xs (k - 1) s at.entry, long _ at.stands, length-take k xs, from_one)
+
+-- as many as the place's step
+pub kept_here : (stands : List Registers → Type 0) (machine : Machine) (capture : List Record) (w : Cursor) (r : Record)
+    (kept : ℕ) → Stands machine capture w → slice_get capture (w.place.packet - 1) ≡ Some r → 0 < w.place.step
+    → Keeps stands machine capture w.place → ((ys : List Registers) → stands ys → length ys ≡ kept) → kept ≡ w.place.step
+kept_here stands machine capture w r kept h at begun keeps long = keeps_as_many stands (trace machine r.bytes r.wire)
+    w.place.step w.state kept (keeps_to stands machine capture w r h at begun keeps) long

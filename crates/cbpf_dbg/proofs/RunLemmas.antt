@@ -132,15 +132,6 @@ module _ (machine : Machine) (c : Savefile) (breakpoints : Breakpoints) (limit :
 
 -- ---- a step on
 
-pub slice_get-later : {X : Type 0} (x : X) (xs : List X) (k : ℕ) → 2 ≤ k
-    → slice_get (x ∷ xs) (k - 1) ≡ slice_get xs (k - 1 - 1)
-slice_get-later x xs k h =
-    let e : k - 1 ≡ suc (k - 1 - 1) = omega arith in
-    ap (λ i. slice_get (x ∷ xs) i) e
-
-pub slice_get-first : {X : Type 0} (x : X) (xs : List X) (k : ℕ) → k ≡ 1 → slice_get (x ∷ xs) (k - 1) ≡ Some x
-slice_get-first x xs k h = rw h refl
-
 -- past the first ones of a list
 pub slice_get-past : {X : Type 0} (xs ys : List X) (k n : ℕ) → length xs ≡ k → k < n
     → slice_get (xs ++ ys) (n - 1) ≡ slice_get ys (n - k - 1)

@@ -1,12 +1,18 @@
 -- How a step nears the entry that it seeks.
 use Rattle.std.proofs.Common.{◌≡◌, ℕ, zero, suc, ◌+◌, ◌-◌, ◌*◌, ◌<◌, ◌≤◌, ◌++◌, List, [], length, length-append, arith}
-use Rattle.std.proofs.Common.{append_assoc, sym, ap, ◌∙◌, refl, ◌^◌, ◌/◌, Bool, true, false}
-use Rattle.std.specs.Prelude.{slice_get, min}
+use Rattle.std.proofs.Common.{append_assoc, sym, ap, ◌∙◌, refl, ◌^◌, ◌/◌, Bool, true, false, drop, length-drop, subst}
+use Rattle.cbpf_code.specs.declared.checker.TheConstants.{MAX_INSTRUCTIONS}
+use Rattle.cbpf_machine.specs.declared.follow.Followed.{Followed}
+use Rattle.cbpf_machine.specs.declared.follow.Followed.TheVariants.{Paused, Ended}
+use Rattle.cbpf_machine.specs.Follow.{follow_by}
+use Rattle.cbpf_machine.proofs.ByLemmas.{by_comes, by_ends}
+use Rattle.cbpf_dbg.specs.declared.cursor.Moved.TheVariants as moved
+use Rattle.std.specs.Prelude.{slice_get, min, Some}
 use Rattle.std.proofs.lemmas.Nat.{le-div, mul-le}
 use Rattle.std.proofs.Math.Nat.{div-mul-le_self}
 use Rattle.cbpf_machine.specs.Machine.{Machine}
-use Rattle.cbpf_machine.specs.Registers.{zero_state}
-use Rattle.cbpf_machine.specs.Trace.{trace}
+use Rattle.cbpf_machine.specs.Registers.{Registers, zero_state}
+use Rattle.cbpf_machine.specs.Trace.{trace, outcome}
 use Rattle.cbpf_machine.proofs.SoundLemmas.{sound_some}
 use Rattle.cbpf_machine.proofs.TraceLemmas.{length-trace_from}
 use Rattle.cbpf_code.specs.Sound.{IsSound}
@@ -14,17 +20,18 @@ use Rattle.pcap_classic.specs.Records.{Record}
 use Rattle.cbpf_reply.specs.declared.reply.Place.{Place}
 use Rattle.cbpf_dbg.specs.declared.cursor.Cursor.{Cursor}
 use Rattle.cbpf_dbg.specs.declared.cursor.Walk.{Walk}
-use Rattle.cbpf_dbg.specs.declared.cursor.Moved.TheVariants as moved
 use Rattle.cbpf_dbg.specs.declared.loaded.Loaded.{Loaded}
 use Rattle.cbpf_dbg.specs.Loaded.{machine_in, records_in}
 use Rattle.cbpf_dbg.specs.Going.{GoesOn}
 use Rattle.cbpf_dbg.specs.Joined.{Entry, entries_after, packet_entries}
-use Rattle.cbpf_dbg.specs.Cursor.{Stands, Moves, Nears, Passes, entry_here}
-use Rattle.cbpf_dbg.proofs.JoinedLemmas.{place_at, ahead-whole, not_before_on, not_before_past}
+use Rattle.cbpf_dbg.specs.Cursor.{Stands, Nears, Passes, GoesOnBy, GoesOut, entry_here, followed, moved_by, passed}
+use Rattle.cbpf_dbg.proofs.JoinedLemmas.{place_at, ahead-whole, ahead-entry, ahead-leave, not_before_on, not_before_past}
 use Rattle.cbpf_dbg.proofs.RecordsLeftLemmas.{at_end}
-use Rattle.cbpf_dbg.proofs.FollowLemmas.{item_within}
+use Rattle.cbpf_dbg.proofs.FollowLemmas.{item_within, ahead_long, step_within, steps_few}
+use Rattle.cbpf_dbg.proofs.CursorLemmas.{packet_from_one, entry_at_place, stands_at, stands-passed}
+use Rattle.std.proofs.lemmas.Option.{slice_get_within}
 use Rattle.cbpf_dbg.proofs.GoingLemmas.{passes_more}
-use Rattle.cbpf_dbg.proofs.RunLemmas.{slice_get-past, slice_get-later}
+use Rattle.cbpf_dbg.proofs.RunLemmas.{slice_get-past}
 use Rattle.cbpf_dbg.proofs.TurnCountLemmas.{length_entries}
 
 module _ (machine : Machine) (capture : List Record) where
@@ -102,45 +109,165 @@ module _ (machine : Machine) (capture : List Record) where
         },
       )
 
-  -- to the next entry
-  pub passes_entry : (w v : Cursor) (before after : ℕ) → Stands machine capture v → Moves machine capture w moved.Entry v
-      → v.origin ≡ w.origin → after ≡ before + min w.place.step 1 → Passes machine capture w v before after
-  passes_entry w v before after h m origin turns =
-      record {
-        stands = h;
-        origin = origin;
-        order = not_before_on w.place v.place m.2 (omega (arith, m.3));
-        spent = omega (arith, ap length m.4, m.3, turns);
-      }
+-- on in a packet
+module _ (machine : Machine) (capture : List Record) (w : Cursor) (r : Record) (h : Stands machine capture w)
+    (at : slice_get capture (w.place.packet - 1) ≡ Some r) where
+  -- past n of the packet's entries
+  ahead_past : (n k m : ℕ) → k + n ≤ length (trace machine r.bytes r.wire)
+      → slice_get (entries_after machine capture (place_at w.place.packet k)) (n + m)
+      ≡ slice_get (entries_after machine capture (place_at w.place.packet (k + n))) m
+  ahead_past zero k m within =
+      let i : k + 0 ≡ k = omega arith in
+      let j : 0 + m ≡ m = omega arith in
+      rw (i, j) refl
+  ahead_past (suc n) k m within =
+      let s = item_within (trace machine r.bytes r.wire) k (omega (arith, within)) in
+      let first = ahead-entry machine capture w.place.packet k r s.0 (packet_from_one machine capture w r h at) at s.1 in
+      let i : k + suc n ≡ k + 1 + n = omega arith in
+      let j : suc n + m ≡ suc (n + m) = omega arith in
+      rw (i, j, first) (ahead_past n (k + 1) m (omega (arith, within)))
 
-  -- to an entry that isn't the one that is sought
-  pub nears_entry : (w v : Cursor) (left before after : ℕ) → Stands machine capture v
-      → Moves machine capture w moved.Entry v → v.origin ≡ w.origin → 2 ≤ left
-      → after ≡ before + min w.place.step 1 → Nears machine capture w v left (left - 1) before after
-  nears_entry w v left before after h m origin more turns =
-      record {
-        passes = passes_entry w v before after h m origin turns;
-        some = omega (arith, more);
-        sought = rw m.4 (slice_get-later (entry_here machine m.0 v) _ left more);
-        fewer = omega (arith, ap length m.4);
-      }
+  module _ (v : Cursor) (n before after : ℕ) (stands : Stands machine capture v) (origin : v.origin ≡ w.origin) where
+    -- to the entry that is sought
+    pub finds : v.place ≡ record { packet = w.place.packet; step = w.place.step + n } → 1 ≤ n
+        → slice_get (entries_after machine capture w.place) (n - 1) ≡ Some (entry_here machine r v)
+    finds place some =
+        let packet : v.place.packet ≡ w.place.packet = ap (λ (q : Place). q.packet) place in
+        let step : v.place.step ≡ w.place.step + n = ap (λ (q : Place). q.step) place in
+        let entry = entry_at_place machine capture v r stands (rw packet at) (omega (arith, step, some)) in
+        let i : v.place.step - 1 ≡ w.place.step + (n - 1) = omega (arith, step, some) in
+        let there = rw i at entry in
+        let within = slice_get_within (trace machine r.bytes r.wire) (w.place.step + (n - 1)) v.state there in
+        let j : n - 1 + 0 ≡ n - 1 = omega arith in
+        let k : w.place.step + (n - 1) + 1 ≡ w.place.step + n = omega (arith, some) in
+        let first = ahead-entry machine capture w.place.packet (w.place.step + (n - 1)) r v.state
+        (packet_from_one machine capture w r h at) at there in
+        rw j at (ahead_past (n - 1) w.place.step 0 (omega (arith, within)))
+        ∙ rw first (rw (k, ← place) refl)
 
-  -- out of a packet
-  pub nears_out : (w v : Cursor) (left before after : ℕ) → Stands machine capture v
-      → Moves machine capture w moved.Packet v → v.origin ≡ w.origin → 1 ≤ left
-      → after ≡ before + min w.place.step 1 → Nears machine capture w v left left before after
-  nears_out w v left before after h m origin some turns =
-      record {
-        passes = record {
-          stands = h;
+    pub passes_on : v.place ≡ record { packet = w.place.packet; step = w.place.step + n } → 1 ≤ n
+        → after + 1 ≡ before + n + min w.place.step 1 → Passes machine capture w v before after
+    passes_on place some turns =
+        let packet : v.place.packet ≡ w.place.packet = ap (λ (q : Place). q.packet) place in
+        let step : v.place.step ≡ w.place.step + n = ap (λ (q : Place). q.step) place in
+        let entry = entry_at_place machine capture v r stands (rw packet at) (omega (arith, step, some)) in
+        let within = slice_get_within (trace machine r.bytes r.wire) (v.place.step - 1) v.state entry in
+        record {
+          stands = stands;
           origin = origin;
-          order = not_before_past w.place v.place (omega (arith, ap (λ (q : Place). q.packet) m.0));
-          spent = omega (arith, ap length m.1, ap (λ (q : Place). q.step) m.0, turns);
-        };
-        some = some;
-        sought = ap (λ xs. slice_get xs (left - 1)) m.1;
-        fewer = omega (arith, ap length m.1);
-      }
+          order = not_before_on w.place v.place packet (omega (arith, step));
+          spent = rw place (omega (
+            arith,
+            turns,
+            some,
+            step,
+            ahead_long machine capture w r h at w.place.step (step_within machine capture w r h at),
+            ahead_long machine capture w r h at (w.place.step + n) (omega (arith, within, step, some)),
+          ));
+        }
+
+    -- out of the packet
+    pub nears_out : (left : ℕ) → v.place ≡ record { packet = w.place.packet + 1; step = 0 } → 1 ≤ left
+        → w.place.step + n ≡ length (trace machine r.bytes r.wire) + left
+        → after + w.place.step ≡ before + length (trace machine r.bytes r.wire) + min w.place.step 1
+        → Nears machine capture w v n left before after
+    nears_out left place some sum turns =
+        let long = length (trace machine r.bytes r.wire) in
+        let within = step_within machine capture w r h at in
+        let all = ahead_long machine capture w r h at w.place.step within in
+        let leave = ahead-leave machine capture w.place.packet (length (trace machine r.bytes r.wire)) r
+        (packet_from_one machine capture w r h at) at (omega arith) in
+        let i : n - 1 ≡ length (trace machine r.bytes r.wire) - w.place.step + (left - 1) = omega (arith, sum, within, some) in
+        let k : w.place.step + (length (trace machine r.bytes r.wire) - w.place.step) ≡ length (trace machine r.bytes r.wire) =
+        omega (arith, within) in
+        record {
+          passes = record {
+            stands = stands;
+            origin = origin;
+            order = not_before_past w.place v.place (omega (arith, ap (λ (q : Place). q.packet) place));
+            spent = rw place (omega (arith, turns, all, ap length leave, within));
+          };
+          some = some;
+          sought = rw (place, i) (ahead_past (length (trace machine r.bytes r.wire) - w.place.step) w.place.step (left - 1)
+              (omega (arith, within)) ∙ rw (k, leave) refl);
+          fewer = rw place (omega (arith, all, ap length leave, within));
+        }
+
+-- into a packet, unless it has begun, and on there
+module _ (machine : Machine) (capture : List Record) (w : Cursor) (r : Record) (h : Stands machine capture w)
+    (at : slice_get capture (w.place.packet - 1) ≡ Some r) (mid v : Cursor) (left ahead before after : ℕ)
+    (stands : Stands machine capture v) (origin : v.origin ≡ w.origin) (packet : mid.place.packet ≡ w.place.packet)
+    (step : mid.place.step + min w.place.step 1 ≡ w.place.step + 1) (sum : mid.place.step + ahead ≡ w.place.step + left)
+    (some : 1 ≤ left) where
+  pub steps_to : GoesOnBy mid v ahead before after → Passes machine capture w v before after
+      × (slice_get (entries_after machine capture w.place) (left - 1) ≡ Some (entry_here machine r v))
+  steps_to on =
+      let place : v.place ≡ record { packet = w.place.packet; step = w.place.step + left } =
+      on.place ∙ rw (packet, sum) refl in (
+        passes_on machine capture w r h at v left before after stands origin place some (omega (arith, on.spent, sum, step)),
+        finds machine capture w r h at v left before after stands origin place some,
+      )
+
+  pub steps_out : (more : ℕ) → GoesOut (length (trace machine r.bytes r.wire)) mid v ahead more before after
+      → Nears machine capture w v left more before after
+  steps_out more out =
+      let place : v.place ≡ record { packet = w.place.packet + 1; step = 0 } = out.place ∙ rw packet refl in
+      nears_out machine capture w r h at v left before after stands origin more place out.some
+      (omega (arith, out.sum, sum)) (omega (arith, out.spent, step))
+
+-- from an entry of a packet on
+module _ (machine : Machine) (capture : List Record) (w : Cursor) (r : Record) (h : Stands machine capture w)
+    (at : slice_get capture (w.place.packet - 1) ≡ Some r) (begun : 0 < w.place.step) where
+  abbrev steps : List Registers
+  steps = trace machine r.bytes r.wire
+
+  -- the steps can be counted
+  pub steps_fit_by : (most m : ℕ) (s : Registers)
+      → (Paused m, s) ≡ follow_by most (drop w.place.step steps) (outcome machine r.bytes r.wire) w.state
+      → w.place.step + m ≤ MAX_INSTRUCTIONS
+  steps_fit_by most m s follows =
+      let to = by_comes steps w.place.step begun _ w.state most m s (entry_at_place machine capture w r h at begun) follows in
+      omega (arith, to.0, slice_get_within steps (w.place.step + most - 1) s to.1, steps_few machine capture w r h at, begun)
+
+  module _ (s : Registers) (v : Cursor) (most n before after : ℕ) (is_most : most ≡ min n MAX_INSTRUCTIONS)
+      (turns : after ≡ before + min most (length (drop w.place.step steps) + 1)) where
+    -- by so many entries
+    pub on_by : (f : Followed) → moved.Entry ≡ moved_by f → v ≡ followed (record w { state = s }) f
+        → (f, s) ≡ follow_by most (drop w.place.step steps) (outcome machine r.bytes r.wire) w.state
+        → Stands machine capture v × GoesOnBy w v n before after
+    on_by (Paused m) moves e follows =
+        let to = by_comes steps w.place.step begun _ w.state most m s (entry_at_place machine capture w r h at begun) follows in
+        let within = slice_get_within steps (w.place.step + most - 1) s to.1 in
+        let few = steps_few machine capture w r h at in
+        let all : m ≡ n = omega (arith, to.0, is_most, within, few, begun) in
+        let i : w.place.step + m - 1 ≡ w.place.step + most - 1 = omega (arith, to.0) in (
+          subst (λ u. Stands machine capture u) (sym e) (stands_at machine capture w r h at (w.place.step + m) s (rw i to.1)),
+          record {
+            place = rw e (rw all refl);
+            spent = omega (arith, turns, length-drop w.place.step steps, within, all, to.0, begun);
+          },
+        )
+    on_by (Ended o) moves e follows = absurd cc
+
+    -- or out of the packet
+    pub out_by : (f : Followed) → moved.Packet ≡ moved_by f → v ≡ followed (record w { state = s }) f
+        → (f, s) ≡ follow_by most (drop w.place.step steps) (outcome machine r.bytes r.wire) w.state
+        → Stands machine capture v × GoesOut (length steps) w v n (n - (after - before - 1)) before after
+    out_by (Paused m) moves e follows = absurd cc
+    out_by (Ended o) moves e follows =
+        let within = step_within machine capture w r h at in
+        let of = by_ends steps w.place.step begun _ w.state most o s within follows in
+        let same : passed w (outcome machine r.bytes r.wire) ≡ passed (record w { state = s }) o = rw (of.1, of.2) refl in
+        let made : after ≡ before + (length steps - w.place.step) + 1 =
+        omega (arith, turns, length-drop w.place.step steps, of.0, within) in (
+          subst (λ u. Stands machine capture u) (same ∙ sym e) (stands-passed machine capture w r h at),
+          record {
+            some = omega (arith, made, of.0, is_most, within);
+            sum = omega (arith, made, of.0, is_most, within);
+            place = rw e refl;
+            spent = omega (arith, made, within);
+          },
+        )
 
 -- the end of so many packets as have fewer entries than are left
 end_of_packets : (p left longest : ℕ) {sum past end : ℕ} → 0 < longest → longest < left → p < past

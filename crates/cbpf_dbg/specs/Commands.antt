@@ -58,6 +58,7 @@ where_loaded m act = with_both m.program m.capture (λ list c. act (machine_of l
 abbrev pub stopped : View → Stop → RunReply × View
 stopped m stop = (Stopped stop, record m { place = stop.place })
 
+-- the counts up to the capture's end, and back to the start
 abbrev pub finished : View → Machine → List Record → RunReply × View
 finished m machine capture =
     (Finished (counts machine capture m.origin (length capture + 1)), record m { place = start; origin = 1 })
@@ -68,8 +69,8 @@ limited m machine capture next =
 
 -- ---- run
 
--- no stop comes before the limit: the run goes to before the packet after the limit, or where the capture has no such
--- packet, to the end
+-- no stop comes before the limit: the run goes to before the packet after the limit; or where the capture has no such
+-- packet, it finishes
 abbrev pub run_out : View → Machine → List Record → Option ℕ → RunReply × View
 run_out m machine capture None = finished m machine capture
 run_out m machine capture (Some n) =
@@ -212,7 +213,8 @@ abbrev pub last_place : Place → List Stop → Place
 last_place place [] = place
 last_place place (stop ∷ rest) = last_place stop.place rest
 
--- Where memory runs out, a whole run has found some of the stops that were ahead, the first ones in order, or none. The
+-- A whole run puts its stops after those of its caller's list, which is `old_found` before it and `new_found` after it. Where
+-- memory for that list runs out, it has found some of the stops that were ahead, the first ones in order, or none. The
 -- others are still ahead, and only the place differs: it is that of the last one that was found, if one was.
 pub record Found (old new : View) (old_found new_found : List Stop) : Type 0 where
   pub first : List Stop

@@ -45,10 +45,6 @@ pub record Stands (machine : Machine) (capture : List Record) (w : Cursor) : Typ
 abbrev pub entered : Cursor → Cursor
 entered w = record w { place = record { packet = w.place.packet; step = 1 }; state = zero_state }
 
--- the cursor at the next entry
-abbrev pub stepped : Cursor → Registers → Cursor
-stepped w t = record w { place = record { packet = w.place.packet; step = w.place.step + 1 }; state = t }
-
 -- one more outcome can be counted
 pub record Countable (packet : ℕ) (n : Counts) : Type 0 where
   pub packets : packet + 1 < 2 ^ 64
@@ -81,16 +77,6 @@ moved_by (followed_to.Ended o) = moved.Packet
 
 abbrev pub entry_here : Machine → Record → Cursor → Entry
 entry_here machine r w = record { place = w.place; state = w.state; turn = turn machine r.bytes r.wire w.state }
-
--- how a move changed what is ahead
-abbrev pub Moves : Machine → List Record → Cursor → Moved → Cursor → Type 0
-Moves machine capture old moved.Entry new =
-    (r : Record) × (slice_get capture (new.place.packet - 1) ≡ Some r) × (new.place.packet ≡ old.place.packet)
-    × (new.place.step ≡ old.place.step + 1)
-    × (entries_after machine capture old.place ≡ entry_here machine r new ∷ entries_after machine capture new.place)
-Moves machine capture old moved.Packet new =
-    (new.place ≡ record { packet = old.place.packet + 1; step = 0 })
-    × (entries_after machine capture old.place ≡ entries_after machine capture new.place)
 
 -- how many turns are owed to the end: one for each entry ahead, and one for the entry of the place
 abbrev pub owed : Machine → List Record → Place → ℕ
@@ -158,6 +144,18 @@ pub record Nears (machine : Machine) (capture : List Record) (old new : Cursor) 
   pub sought : slice_get (entries_after machine capture old.place) (n - 1)
       ≡ slice_get (entries_after machine capture new.place) (left - 1)
   pub fewer : length (entries_after machine capture new.place) ≤ length (entries_after machine capture old.place)
+
+-- a cursor goes on in its packet by n entries, by a turn each
+pub record GoesOnBy (old new : Cursor) (n spent_old spent_new : ℕ) : Type 0 where
+  pub place : new.place ≡ record { packet = old.place.packet; step = old.place.step + n }
+  pub spent : spent_new ≡ spent_old + n
+
+-- a cursor goes out of its packet, which has so many steps, as fewer than n entries are ahead there; `left` entries are left
+pub record GoesOut (steps : ℕ) (old new : Cursor) (n left spent_old spent_new : ℕ) : Type 0 where
+  pub some : 1 ≤ left
+  pub sum : old.place.step + n ≡ steps + left
+  pub place : new.place ≡ record { packet = old.place.packet + 1; step = 0 }
+  pub spent : spent_new + old.place.step ≡ spent_old + steps + 1
 
 -- a step back answers the entry at that step, and the cursor stands there
 pub record StepsBack (machine : Machine) (capture : List Record) (old new : Cursor) (b : ℕ) (stop : Stop) :

@@ -1,24 +1,18 @@
-//! One move at a time over the entries of a capture.
+//! A cursor over the entries of a capture.
 
-ghost use Rattle.std.specs.Prelude.{◌≡◌, ◌+◌, ◌-◌, ◌<◌, ◌≤◌, ◌^◌, ℕ, List, length, min, Some, slice_get};
+ghost use Rattle.std.specs.Prelude.{◌≡◌, ◌+◌, ◌<◌, ◌≤◌, ◌^◌, ℕ, List, length};
 ghost use Rattle.cbpf_code.specs.Sound.{IsSound};
 ghost use Rattle.cbpf_machine.specs.Machine.{Machine, machine_of};
-ghost use Rattle.pcap_classic.specs.Lent.{record_of};
 ghost use Rattle.pcap_classic.specs.Records.{Record};
-ghost use Rattle.cbpf_dbg.specs.Loaded.{machine_in, records_in};
-ghost use Rattle.cbpf_dbg.specs.Cursor.{Stands, Moves, IsEntry, entered, stepped, passed, followed as after};
+ghost use Rattle.cbpf_dbg.specs.Cursor.{Stands, IsEntry, entered, passed, followed as after};
 ghost use Rattle.cbpf_dbg.specs.Cursor.{Countable, moved_by, entry_here};
-ghost use Rattle.cbpf_dbg.specs.declared.cursor.Moved.TheVariants as moved;
 ghost use Rattle.cbpf_machine.specs.declared.follow.Followed.TheVariants as ways;
 ghost use Rattle.cbpf_dbg.specs.Joined as joined;
 
-use crate::loaded::Loaded;
 use cbpf_code::Program;
-use cbpf_machine::{
-    Followed, Meter, Outcome, Packet, State, Task, Values, missing_extension, turn_in_place,
-};
+use cbpf_machine::{Followed, Outcome, State, Values, missing_extension};
 use cbpf_reply::{Counts, Place, Stop, Why};
-use pcap_classic::{Captured, Records};
+use pcap_classic::Records;
 use std::alloc::Allocator;
 
 /// A place with its state, and the outcomes of the packets from the origin up to the place's.
@@ -54,18 +48,11 @@ pub(crate) enum Moved {
 }
 
 impl Cursor {
-    fn enter(&mut self)
+    pub(crate) fn enter(&mut self)
         ensures { self.new ≡ entered self.old }
     {
         self.place.step = 1;
         self.state = State::zero();
-    }
-
-    fn go_on(&mut self)
-        requires { self.old.place.step + 1 < 2 ^ 32 }
-        ensures { self.new ≡ stepped self.old self.old.state }
-    {
-        self.place.step += 1;
     }
 
     /// Counts the outcome of the packet that it stands before, and goes before the next.
@@ -144,80 +131,6 @@ impl Cursor {
             },
         }
     }
-}
-
-/// Goes on by one entry from an entry of the packet, or out of the packet, whose record is `here`.
-fn leave_entry<A: Allocator>(
-    meter: &mut Meter,
-    loaded: &Loaded<'_, A>,
-    here: &Captured<'_>,
-    cursor: &mut Cursor,
-) -> Moved
-    requires stands { Stands (machine_in loaded.now) (records_in loaded.now) cursor.old }
-    requires here { slice_get (records_in loaded.now) (cursor.old.place.packet - 1) ≡ Some (record_of here.now) }
-    requires begun { 0 < cursor.old.place.step }
-    requires spare { meter.old + 1 < 2 ^ 128 }
-    ensures stands { Stands (machine_in loaded.now) (records_in loaded.now) cursor.new }
-    ensures moves { Moves (machine_in loaded.now) (records_in loaded.now) cursor.old result cursor.new }
-    ensures origin { cursor.new.origin ≡ cursor.old.origin }
-    ensures turns { meter.new ≡ meter.old + 1 }
-{
-    let task = Task {
-        program: loaded.program,
-        packet: Packet {
-            bytes: here.bytes,
-            wire: here.wire,
-        },
-        values: loaded.values,
-    };
-    match turn_in_place(meter, &task, &mut cursor.state) {
-        None => {
-            cursor.go_on();
-            Moved::Entry
-        }
-        Some(end) => {
-            cursor.finish_packet(Outcome::from(end));
-            Moved::Packet
-        }
-    }
-}
-
-/// Goes on by one entry, or out of the packet, whose record is `here`.
-pub(crate) fn advance<A: Allocator>(
-    meter: &mut Meter,
-    loaded: &Loaded<'_, A>,
-    here: &Captured<'_>,
-    cursor: &mut Cursor,
-) -> Moved
-    requires stands { Stands (machine_in loaded.now) (records_in loaded.now) cursor.old }
-    requires here { slice_get (records_in loaded.now) (cursor.old.place.packet - 1) ≡ Some (record_of here.now) }
-    requires spare { meter.old + 1 < 2 ^ 128 }
-    ensures stands { Stands (machine_in loaded.now) (records_in loaded.now) cursor.new }
-    ensures moves { Moves (machine_in loaded.now) (records_in loaded.now) cursor.old result cursor.new }
-    ensures origin { cursor.new.origin ≡ cursor.old.origin }
-    ensures turns { meter.new ≡ meter.old + min cursor.old.place.step 1 }
-{
-    if cursor.place.step == 0 {
-        enter_packet(loaded, here, cursor);
-        return Moved::Entry;
-    }
-    leave_entry(meter, loaded, here, cursor)
-}
-
-/// Goes to the first entry of a packet, whose record is `here`.
-pub(crate) fn enter_packet<A: Allocator>(
-    loaded: &Loaded<'_, A>,
-    here: &Captured<'_>,
-    cursor: &mut Cursor,
-)
-    requires stands { Stands (machine_in loaded.now) (records_in loaded.now) cursor.old }
-    requires here { slice_get (records_in loaded.now) (cursor.old.place.packet - 1) ≡ Some (record_of here.now) }
-    requires before { cursor.old.place.step ≡ 0 }
-    ensures stands { Stands (machine_in loaded.now) (records_in loaded.now) cursor.new }
-    ensures moves { Moves (machine_in loaded.now) (records_in loaded.now) cursor.old moved.Entry cursor.new }
-    ensures origin { cursor.new.origin ≡ cursor.old.origin }
-{
-    cursor.enter();
 }
 
 /// The stop at the entry of a cursor, whose instruction is read without a turn.

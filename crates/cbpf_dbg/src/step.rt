@@ -1,21 +1,25 @@
 //! Steps both ways.
 
-ghost use Rattle.std.specs.Prelude.{◌≡◌, ◌+◌, ◌*◌, ◌≤◌, ◌^◌, MatchResult, OnErr, OnOk};
+ghost use Rattle.std.specs.Prelude.{◌≡◌, ◌+◌, ◌*◌, ◌≤◌, ◌^◌, MatchResult, OnErr, OnOk, IfSome};
+ghost use Rattle.std.specs.Prelude.{◌-◌, ◌<◌, length, min, slice_get, Some, None};
+ghost use Rattle.cbpf_machine.specs.Trace.{trace};
+ghost use Rattle.pcap_classic.specs.Lent.{record_of};
 ghost use Rattle.cbpf_code.specs.declared.checker.TheConstants.{MAX_INSTRUCTIONS};
 ghost use Rattle.pcap_classic.specs.Records.{StartsAt};
 ghost use Rattle.cbpf_dbg.specs.Breakpoints.{Breakpoints};
 ghost use Rattle.cbpf_dbg.specs.Loaded.{machine_in, records_in};
 ghost use Rattle.cbpf_dbg.specs.Going.{KeepsIn};
 ghost use Rattle.cbpf_dbg.specs.Session.{IsInside};
-ghost use Rattle.cbpf_dbg.specs.Cursor.{Stands, AreLeft, Nears, owed};
+ghost use Rattle.cbpf_dbg.specs.Cursor.{Stands, AreLeft, Nears, GoesOnBy, GoesOut, owed};
 ghost use Rattle.cbpf_dbg.specs.Cursor.{RepliesBy, step_from, turns_of, StepsBack, CannotStepBack};
 
-use crate::cursor::{Cursor, Moved, Walk, advance, stop_at};
+use crate::cursor::{Cursor, Moved, Walk, stop_at};
 use crate::loaded::Loaded;
 use crate::run::{NoTrail, run_records};
-use cbpf_machine::{Meter, Never, Packet, Trail};
+use cbpf_code::MAX_INSTRUCTIONS;
+use cbpf_machine::{Meter, Never, Packet, Task, Trail};
 use cbpf_reply::{RunReply, Stop, Why};
-use pcap_classic::Records;
+use pcap_classic::{Captured, Records};
 use std::alloc::Allocator;
 
 /// Passes over whole packets while the entry that is sought, the `n`-th ahead, is in a later one: how far ahead it is
@@ -67,6 +71,75 @@ fn skip_packets<'a, A: Allocator>(
     left
 }
 
+/// Goes to the first entry of a packet, whose record is `here`, where the cursor stands before it: how many entries ahead
+/// the one that is sought is then, which was the `n`-th.
+fn enter_packet<T: Trail, A: Allocator>(
+    loaded: &Loaded<'_, A>,
+    here: &Captured<'_>,
+    cursor: &mut Cursor,
+    trail: &mut T,
+    n: u64,
+) -> u64
+    requires stands { Stands (machine_in loaded.now) (records_in loaded.now) cursor.old }
+    requires here { slice_get (records_in loaded.now) (cursor.old.place.packet - 1) ≡ Some (record_of here.now) }
+    requires keeps { KeepsIn (λ xs. T.stands_for trail.old xs) loaded.now cursor.old.place }
+    requires some { 1 ≤ n }
+    ensures stands { Stands (machine_in loaded.now) (records_in loaded.now) cursor.new }
+    ensures keeps { KeepsIn (λ xs. T.stands_for trail.new xs) loaded.now cursor.new.place }
+    ensures packet { cursor.new.place.packet ≡ cursor.old.place.packet }
+    ensures origin { cursor.new.origin ≡ cursor.old.origin }
+    ensures step { cursor.new.place.step + min cursor.old.place.step 1 ≡ cursor.old.place.step + 1 }
+    ensures left { cursor.new.place.step + result ≡ cursor.old.place.step + n }
+{
+    if cursor.place.step > 0 {
+        return n;
+    }
+    cursor.enter();
+    trail.push(cursor.state);
+    n - 1
+}
+
+/// Goes on from an entry of a packet, whose record is `here`, by `n` entries: `None`. Or goes out of the packet: how many
+/// entries are left then.
+fn go_on<T: Trail, A: Allocator>(
+    meter: &mut Meter,
+    loaded: &Loaded<'_, A>,
+    here: &Captured<'_>,
+    cursor: &mut Cursor,
+    trail: &mut T,
+    n: u64,
+) -> Option<u64>
+    requires stands { Stands (machine_in loaded.now) (records_in loaded.now) cursor.old }
+    requires here { slice_get (records_in loaded.now) (cursor.old.place.packet - 1) ≡ Some (record_of here.now) }
+    requires keeps { KeepsIn (λ xs. T.stands_for trail.old xs) loaded.now cursor.old.place }
+    requires begun { 0 < cursor.old.place.step }
+    requires spare { meter.old + MAX_INSTRUCTIONS < 2 ^ 128 }
+    ensures stands { Stands (machine_in loaded.now) (records_in loaded.now) cursor.new }
+    ensures origin { cursor.new.origin ≡ cursor.old.origin }
+    ensures keeps { result ≡ None → KeepsIn (λ xs. T.stands_for trail.new xs) loaded.now cursor.new.place }
+    ensures on { result ≡ None → GoesOnBy cursor.old cursor.new n meter.old meter.new }
+    ensures out { IfSome result (λ left. GoesOut (length (trace (machine_in loaded.now) here.now.bytes.now here.now.wire))
+        cursor.old cursor.new n left meter.old meter.new) }
+{
+    let task = Task {
+        program: loaded.program,
+        packet: Packet {
+            bytes: here.bytes,
+            wire: here.wire,
+        },
+        values: loaded.values,
+    };
+    let before = meter.spent();
+    // A packet has no more entries.
+    let most = n.min(MAX_INSTRUCTIONS as u64) as u32;
+    let followed = trail.advance(meter, &task, most, &mut cursor.state);
+    match cursor.apply(followed) {
+        Moved::Entry => None,
+        // The last entry's turn leads out.
+        Moved::Packet => Some(n - (meter.spent() - before - 1) as u64),
+    }
+}
+
 /// Goes on by that many entries, or to the end.
 pub(crate) fn step_on<T: Trail, A: Allocator>(
     meter: &mut Meter,
@@ -100,23 +173,15 @@ pub(crate) fn step_on<T: Trail, A: Allocator>(
         trail.clear();
     }
     'go: while let Some(here) = records.first() {
-        match advance(meter, loaded, &here, cursor) {
-            Moved::Entry => {
-                trail.push(cursor.state);
-                if left == 1 {
-                    cursor.start = here.start;
-                    return RunReply::Stopped(stop_at(
-                        loaded.program,
-                        loaded.values,
-                        cursor,
-                        Why::Step,
-                    ));
-                }
-                left -= 1;
+        let ahead = enter_packet(loaded, &here, cursor, trail, left);
+        match go_on(meter, loaded, &here, cursor, trail, ahead) {
+            None => {
+                cursor.start = here.start;
+                return RunReply::Stopped(stop_at(loaded.program, loaded.values, cursor, Why::Step));
             }
-            Moved::Packet => {
+            Some(more) => {
                 records.pass(&here);
-                left = skip_packets(meter, loaded, &mut records, cursor, left);
+                left = skip_packets(meter, loaded, &mut records, cursor, more);
                 trail.clear();
             }
         }

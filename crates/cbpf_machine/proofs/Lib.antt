@@ -3,6 +3,7 @@ pub mod TurnLemmas
 pub mod ListLemmas
 pub mod TraceLemmas
 pub mod AskedLemmas
+pub mod ByLemmas
 pub mod FollowLemmas
 pub mod TogetherLemmas
 pub mod KeptLemmas

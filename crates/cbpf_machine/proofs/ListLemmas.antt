@@ -26,6 +26,11 @@ slice_get-take [] (suc n) i h = refl
 slice_get-take (y ∷ ys) (suc n) zero h = refl
 slice_get-take (y ∷ ys) (suc n) (suc i) h = slice_get-take ys n i (omega arith)
 
+pub slice_get-drop : {X : Type 0} (xs : List X) (k i : ℕ) → slice_get (drop k xs) i ≡ slice_get xs (k + i)
+slice_get-drop xs zero i = let e : 0 + i ≡ i = omega arith in rw e refl
+slice_get-drop [] (suc k) i = refl
+slice_get-drop (x ∷ xs) (suc k) i = let e : suc k + i ≡ suc (k + i) = omega arith in rw e (slice_get-drop xs k i)
+
 -- an element that is read, where the default isn't
 pub read_at : {X : Type 0} {xs ys : List X} {i : ℕ} (d : X) → xs ≡ ys → i < length ys
     → slice_get ys i ≡ Some (get_or xs i d)

@@ -29,7 +29,7 @@ mod way;
 mod whole_packet;
 
 pub use equality::equal_where_same;
-pub use execute::{turn, turn_in_place};
+pub use execute::turn;
 pub use follow::{Followed, follow_on, follow_packet};
 pub use list_trail::ListTrail;
 pub use load::Packet;

@@ -2,11 +2,12 @@
 
 ghost use Rattle.std.specs.Prelude.{◌≡◌, ◌<◌, ◌≤◌, ◌+◌, ◌^◌, ℕ, length, IfErr, MatchResult, OnOk};
 ghost use Rattle.cbpf_machine.specs.Core.{registers};
-ghost use Rattle.cbpf_machine.specs.Task.{entries_in};
+ghost use Rattle.cbpf_machine.specs.Task.{entries_in, outcome_in};
 ghost use Rattle.cbpf_machine.specs.OnPacket.{IsOnTrace, in_task};
 
 use crate::follow::make_turns;
 use crate::meter::Meter;
+use crate::outcome::Outcome;
 use crate::pause::Never;
 use crate::state::Core;
 use crate::task::Task;
@@ -14,7 +15,7 @@ use cbpf_code::SLOTS;
 use std::alloc::Allocator;
 
 /// Goes on from an entry of a packet's trace by at most `most` turns, 1 at least: how many it made, or how many up to
-/// the packet's end.
+/// the packet's end, and how it ended.
 #[inline(never)]
 pub(crate) fn go_on<A: Allocator>(
     meter: &mut Meter,
@@ -22,15 +23,15 @@ pub(crate) fn go_on<A: Allocator>(
     most: u32,
     s: &mut Core,
     slots: &mut [u32; SLOTS],
-) -> Result<u32, u32>
+) -> Result<u32, (u32, Outcome)>
     requires some { 1 ≤ most }
     requires on { (i : ℕ) × IsOnTrace (in_task task.now) i (registers s.old slots.old) }
     requires spare { meter.old + most < 2 ^ 128 }
     ensures goes { (i : ℕ) → IsOnTrace (in_task task.now) i (registers s.old slots.old)
         → MatchResult result (λ n. (1 ≤ n) × (n ≤ most)
         × IsOnTrace (in_task task.now) (i + n) (registers s.new slots.new))
-        (λ n. (1 ≤ n) × (n ≤ most) × (length (entries_in task.now) ≡ i + n)) }
-    ensures turns { MatchResult result (λ n. meter.new ≡ meter.old + n) (λ n. meter.new ≡ meter.old + n) }
+        (λ e. (1 ≤ e.0) × (e.0 ≤ most) × (length (entries_in task.now) ≡ i + e.0) × (e.1 ≡ outcome_in task.now)) }
+    ensures turns { MatchResult result (λ n. meter.new ≡ meter.old + n) (λ e. meter.new ≡ meter.old + e.0) }
 {
     let _few = task.program.len();
     let fence = s.pc + most as usize;
@@ -41,7 +42,7 @@ pub(crate) fn go_on<A: Allocator>(
     meter.add(turns);
     match end {
         None => Ok(turns),
-        Some(_) => Err(turns),
+        Some(end) => Err((turns, Outcome::from(end))),
     }
 }
 
@@ -60,7 +61,7 @@ pub(crate) fn reach<A: Allocator>(meter: &mut Meter, task: &Task<'_, A>, to: u32
     'reach: while entries < to {
         match go_on(meter, task, to - entries, &mut here, &mut slots) {
             Ok(turns) => entries += turns,
-            Err(turns) => return Err(entries + turns - 1),
+            Err((turns, _)) => return Err(entries + turns - 1),
         }
     }
     Ok(())

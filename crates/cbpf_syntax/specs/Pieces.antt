@@ -70,7 +70,8 @@ led_kind Slash b bs = slash_kind bs
 led_kind Single b bs = alone bs (TokenOf (Mark b))
 led_kind Other b bs = alone bs (Bad NoToken)
 
--- Which kind of piece the bytes are, if they are one. `fresh` says that the line before them has only blanks.
+-- Which kind of piece the bytes are, if they are one. `fresh` says that only blanks stand before them on their
+-- line.
 abbrev pub piece_kind : Bool → List ℕ → Option PieceKind
 piece_kind fresh [] = None
 piece_kind fresh (b ∷ bs) = led_kind (lead_of fresh b) b bs

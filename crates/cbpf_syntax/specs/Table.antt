@@ -73,8 +73,8 @@ one c = (c ∷ []) ∷ []
 abbrev pub one_mark : ℕ → List (List Class)
 one_mark b = one (the_mark b)
 
--- marks of operands, each as a form of its own, which `·` joins with others; where a mark may be left out, the form itself
--- has it
+-- marks that an operand must have, each a part with one form, which `·` joins to other parts; a mark that may be left out is
+-- written with `the_mark` inside the forms that have it, as in `signed`
 abbrev open_bracket : List (List Class)
 open_bracket = one_mark 91
 

@@ -93,6 +93,28 @@ fn filled_and_followed<T: Trail>(
     (followed, s, meter.spent())
 }
 
+/// Fills a trail, and goes on from its last entry by so many: where the packet then is, the state, and how many turns
+/// that took.
+fn filled_and_advanced<T: Trail>(
+    rt: &impl Test,
+    trail: &mut T,
+    p: &Program,
+    count: u32,
+    more: u32,
+) -> (Followed, State, u128) {
+    let values = Values::new();
+    let task = Task {
+        program: p,
+        packet: EMPTY,
+        values: &values,
+    };
+    assert!(rt; 1 <= count && count <= 4096);
+    let mut s = fill(rt, trail, &task, count);
+    let mut meter = Meter::new();
+    let advanced = trail.advance(&mut meter, &task, more, &mut s);
+    (advanced, s, meter.spent())
+}
+
 /// Asserts where a packet is that was begun and followed to the instruction that is watched.
 fn check_begun(rt: &impl Abort, s: &State, count: u32, watched: u32, turns: u128) {
     let is_there = is_entry(s, count) && s.pc() == watched;
@@ -259,6 +281,14 @@ fn check_back<T: Trail>(rt: &impl Test, trail: &mut T, p: &Program, keeps_all: b
 fn check_onward<T: Trail>(rt: &impl Test, trail: &mut T, p: &Program) {
     for (count, watched) in &ONWARD {
         let found = filled_and_followed(rt, trail, p, *count, *watched);
+        assert_at_both(rt, *count, *watched, is_onward(found, *count, *watched));
+        // As many entries on, or more than are ahead.
+        let more = if *watched < *count {
+            4096
+        } else {
+            (*watched - *count).saturating_add(1)
+        };
+        let found = filled_and_advanced(rt, trail, p, *count, more);
         assert_at_both(rt, *count, *watched, is_onward(found, *count, *watched));
     }
 }

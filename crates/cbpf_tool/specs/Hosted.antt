@@ -33,7 +33,7 @@ unknown = record { is_known = false; files = map.empty; input = []; has_output =
 abbrev pub and_then : Hosted → List Event → Hosted
 and_then h es = record h { events = h.events ++ es }
 
--- the standard input was given to be read, and nothing of it is left
+-- the standard input was given to a reader, so that another call finds it empty; how much that reader took isn't said here
 abbrev pub without_input : Hosted → Hosted
 without_input h = record h { input = [] }
 

@@ -49,7 +49,8 @@ EndsWithoutFile old new name event r = (unopened r ≡ Some name) × (new ≡ an
 abbrev pub AssembledTo : List ℕ → Form → List ℕ → Result (Unit {0}) ToolFault → Type 0
 AssembledTo source form text t = Assembled source form (Some []) (Some text) t
 
--- a script was run over the host's files, and `g` is the source of files afterwards
+-- a script was run over the host's files; of `left`, which its reader has left, and of `g`, which is the source of files
+-- afterwards, nothing more is said
 abbrev pub DebuggedTo : Hosted → List ℕ → List ℕ → Result (Unit {0}) ToolFault → Type 0
 DebuggedTo h script text t =
     (left : Option (List ℕ)) × (g : FileSource)

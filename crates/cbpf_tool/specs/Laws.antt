@@ -21,12 +21,12 @@ OwnOutput files m ls t = (f : ℕ) → Output (HasOwnReply files) m f ls t f
 abbrev pub IsPartOf : List ℕ → List ℕ → Type 0
 IsPartOf reply text = (before after : List ℕ) × (text ≡ before ++ (reply ++ after))
 
--- some lines have at most one output in which each has its own reply
+-- whatever the lines, they have at most one output in which each has its own reply
 abbrev pub OneOwnOutput : Type 0
 OneOwnOutput = (files : Held) (m : View) (ls : List (List ℕ)) (t u : List ℕ) → OwnOutput files m ls t
     → OwnOutput files m ls u → u ≡ t
 
--- some lines have an output in which each has its own reply
+-- whatever the lines, they have an output in which each has its own reply
 abbrev pub HasOwnOutput : Type 0
 HasOwnOutput = (files : Held) (m : View) (ls : List (List ℕ)) → (t : List ℕ) × OwnOutput files m ls t
 

@@ -7,8 +7,8 @@ use Rattle.cbpf_reply.specs.declared.errors.CommandFault.{CommandFault}
 use Rattle.cbpf_dbg.specs.View.{View}
 use Rattle.cbpf_tool.specs.Replies.{Reply}
 
--- the text of the replies to some lines, from what is loaded before them, while the count of failures goes from one
--- number to another; `Replies` says which replies a line can have
+-- the text of the replies to some lines, from the view of the session before them, while the count of failures goes from
+-- one number to another; `Replies` says which replies a line can have
 pub data Output (Replies : View → ℕ → ℕ → Result (Option Command) CommandFault → Reply → Type 0)
     : View → ℕ → List (List ℕ) → List ℕ → ℕ → Type 0 where
   at_end : {m : View} {f : ℕ} → Output Replies m f [] [] f

@@ -1,5 +1,5 @@
 -- What a reader of a capture has read, and what is left of the capture.
-use Rattle.std.specs.Prelude.{◌≡◌, ◌≢◌, ℕ, ◌+◌, ◌<◌, ◌^◌, List, [], ◌∷◌, length, Option, Some, None, Result, Ok, Err, IsSome, ⊤}
+use Rattle.std.specs.Prelude.{◌≡◌, ◌≢◌, ℕ, ◌+◌, ◌<◌, ◌^◌, List, [], ◌∷◌, length, Option, Some, None, Result, Ok, Err, IsSome}
 use Rattle.pcap_classic.specs.Lent.{record_of}
 use Rattle.pcap_classic.specs.Records.{Record}
 use Rattle.pcap_classic.specs.Savefile.{Savefile, IsRefusal, capture_fault}
@@ -48,4 +48,4 @@ HasRecord s = s.records ≢ []
 -- the bytes have this fault of the header; of another fault nothing is said
 abbrev pub IsOpenFault : List ℕ → OpenFault → Type 0
 IsOpenFault file (open_fault.Header fault) = IsRefusal (capture_fault fault) file
-IsOpenFault file (open_fault.Read fault) = ⊤
+IsOpenFault file (open_fault.Read fault) = Unit {0}

@@ -1,12 +1,15 @@
-use Rattle.std.proofs.Common.{◌≡◌, ◌-◌, length, arith, ap, ◌∙◌, Some, None, slice_get, refl}
+use Rattle.std.proofs.Common.{◌≡◌, ◌+◌, ◌-◌, length, arith, ap, ◌∙◌, None, slice_get, refl, ◌≤◌, false, length-drop}
+use Rattle.std.proofs.lemmas.Option.{slice_get_within}
+use Rattle.cbpf_reply.specs.Places.{is_before}
 use Rattle.std.proofs.lemmas.Grind.{common_steps}
+use Rattle.pcap_classic.specs.Lent.{record_of}
+use Rattle.cbpf_reply.specs.declared.reply.Place.{Place}
 use Rattle.cbpf_dbg.specs.Joined.{entries_after}
-use Rattle.cbpf_dbg.specs.Cursor.{entry_here}
 use Rattle.cbpf_dbg.proofs.CursorLemmas.{goes}
-use Rattle.cbpf_dbg.proofs.RecordsLeftLemmas.{first_left, first_of, start_first, left_here, left_past, none_of, nothing_left, all_left}
-use Rattle.cbpf_dbg.proofs.RunLemmas.{slice_get-first, step_stopped, step_finished}
-use Rattle.cbpf_dbg.proofs.KeepLemmas.{keeps_push, keeps_few, keeps_clear}
-use Rattle.cbpf_dbg.proofs.StepLemmas.{nears_none, nears_more, nears_entry, nears_out, passes_entry}
+use Rattle.cbpf_dbg.proofs.RecordsLeftLemmas.{first_left, first_of, start_first, left_past, none_of, nothing_left, all_left}
+use Rattle.cbpf_dbg.proofs.RunLemmas.{step_stopped, step_finished}
+use Rattle.cbpf_dbg.proofs.KeepLemmas.{keeps_clear}
+use Rattle.cbpf_dbg.proofs.StepLemmas.{nears_none, nears_more, steps_to, steps_out}
 use Rattle.cbpf_dbg.proofs.GoingLemmas.{passes_more}
 use Rattle.cbpf_dbg.proofs.TurnCountLemmas.{turns-reply, spent_between, owed-turns, few_after}
 use Rattle.cbpf_dbg.specs.Loaded.{machine_in, records_in}
@@ -34,101 +37,118 @@ go-init g c = elim c.if-cursor-eq0.branch [
   })
 ]
 
-pub advance-requires-clause-here : goal.advance-requires-clause-here
-advance-requires-clause-here g c = first_left _ _ _ _ _ (first_of _ _ c.in-Some.ensures) c.go.invariant.left
+pub enter_packet-ahead-requires-clause-here : goal.enter_packet-ahead-requires-clause-here
+enter_packet-ahead-requires-clause-here g c = first_left _ _ _ _ _ (first_of _ _ c.in-Some.ensures) c.go.invariant.left
+
+pub go_on-requires-clause-here : goal.go_on-requires-clause-here
+go_on-requires-clause-here g c =
+    rw c.enter_packet-ahead.ensures.packet (first_left _ _ _ _ _ (first_of _ _ c.in-Some.ensures) c.go.invariant.left)
 
 -- no more turns are made than were owed
-pub advance-requires-clause-spare : goal.advance-requires-clause-spare
-advance-requires-clause-spare g c =
+pub go_on-requires-clause-spare : goal.go_on-requires-clause-spare
+go_on-requires-clause-spare g c =
     let most = few_after (machine_in c.args.loaded.now) (records_in c.args.loaded.now) c.args.cursor.now.place c.requires.stands.sound c.args.loaded.now.few in
     omega (arith, most, c.requires.early, c.go.invariant.nears.passes.spent)
 
-pub push-requires : goal.push-requires
-push-requires g c =
-    let m = c.in-Entry.ensures.moves in
-    let before : slice_get (records_in c.args.loaded.now) (c.go.cursor.place.packet - 1) ≡ Some m.0 = rw m.2 at m.1 in
-    keeps_few _ _ c.go.cursor.place c.advance.new.cursor m.0 (g.T.Trail.kept c.go.trail) c.in-Entry.ensures.stands m.1 m.3
-    (g.met.T.Trail.as_long c.go.trail _ (c.go.invariant.keeps m.0 before))
-
 pub stop_at-requires : goal.stop_at-requires
 stop_at-requires g c =
-    (goes _ _ c.advance.new.cursor c.in-Entry.ensures.moves.0 c.in-Entry.ensures.stands
-    c.in-Entry.ensures.moves.1 (omega (arith, c.in-Entry.ensures.moves.3))).inside
+    let here = first_left _ _ _ _ _ (first_of _ _ c.in-Some.ensures) c.go.invariant.left in
+    let place = (c.go_on.ensures.on c.in-None.is).place in
+    let packet : c.go_on.new.cursor.place.packet ≡ c.go.cursor.place.packet =
+    ap (λ (q : Place). q.packet) place ∙ c.enter_packet-ahead.ensures.packet in
+    (goes _ _ c.go_on.new.cursor (record_of c.in-Some.here) c.go_on.ensures.stands (rw packet here)
+    (omega (arith, ap (λ (q : Place). q.step) place, c.enter_packet-ahead.ensures.step))).inside
 
-pub returns-then-left-eq1-clause-start : goal.returns-then-left-eq1-clause-start
-returns-then-left-eq1-clause-start g c =
-    rw c.in-Entry.ensures.moves.2 (start_first _ _ _ _ c.go.invariant.left c.in-Some.ensures)
+pub returns-in-None-clause-start : goal.returns-in-None-clause-start
+returns-in-None-clause-start g c =
+    let place = (c.go_on.ensures.on c.in-None.is).place in
+    let packet : c.go_on.new.cursor.place.packet ≡ c.go.cursor.place.packet =
+    ap (λ (q : Place). q.packet) place ∙ c.enter_packet-ahead.ensures.packet in
+    rw packet (start_first _ _ _ _ c.go.invariant.left c.in-Some.ensures)
 
-pub returns-then-left-eq1-clause-keeps : goal.returns-then-left-eq1-clause-keeps
-returns-then-left-eq1-clause-keeps g c =
-    let m = c.in-Entry.ensures.moves in
-    keeps_push (λ xs. g.T.Trail.stands_for c.go.trail xs) (λ xs. g.T.Trail.stands_for c.push.new.self xs)
-    (machine_in c.args.loaded.now) (records_in c.args.loaded.now) c.go.cursor.place c.advance.new.cursor m.0
-    c.in-Entry.ensures.stands m.1 m.2 m.3 c.push.ensures c.go.invariant.keeps
-
-pub returns-then-left-eq1-clause-steps : goal.returns-then-left-eq1-clause-steps
-returns-then-left-eq1-clause-steps g c = λ breakpoints.
-    let m = c.in-Entry.ensures.moves in
-    let here : slice_get (entries_after (machine_in c.args.loaded.now) (records_in c.args.loaded.now) c.go.cursor.place)
-    (c.go.left - 1) ≡ Some (entry_here (machine_in c.args.loaded.now) m.0 c.advance.new.cursor) =
-    rw m.4
-    (slice_get-first (entry_here (machine_in c.args.loaded.now) m.0 c.advance.new.cursor) _ c.go.left (omega arith)) in
+pub returns-in-None-clause-steps : goal.returns-in-None-clause-steps
+returns-in-None-clause-steps g c = λ breakpoints.
+    let here = first_left _ _ _ _ _ (first_of _ _ c.in-Some.ensures) c.go.invariant.left in
+    let in_packet = c.enter_packet-ahead.ensures in
+    let there = steps_to _ _ c.go.cursor (record_of c.in-Some.here) c.go.invariant.nears.passes.stands here
+    c.enter_packet-ahead.new.cursor c.go_on.new.cursor c.go.left c.enter_packet-ahead.result c.go.meter c.go_on.new.meter
+    c.go_on.ensures.stands (c.go_on.ensures.origin ∙ in_packet.origin) in_packet.packet in_packet.step in_packet.left
+    c.go.invariant.nears.some (c.go_on.ensures.on c.in-None.is) in
     step_stopped (machine_in c.args.loaded.now) c.args.loaded.now.capture.now breakpoints c.args.n c.args.cursor.now
-    (record c.advance.new.cursor { start = c.in-Some.here.start }) m.0 c.stop_at.result (c.go.invariant.nears.sought ∙ here) (c.stop_at.ensures m.0)
-    (c.in-Entry.ensures.origin ∙ c.go.invariant.nears.passes.origin)
+    (record c.go_on.new.cursor { start = c.in-Some.here.start }) (record_of c.in-Some.here) c.stop_at.result
+    (c.go.invariant.nears.sought ∙ there.1) (c.stop_at.ensures (record_of c.in-Some.here))
+    (there.0.origin ∙ c.go.invariant.nears.passes.origin)
 
-pub returns-then-left-eq1-clause-inside : goal.returns-then-left-eq1-clause-inside
-returns-then-left-eq1-clause-inside g c = grind (arith, common_steps)
+pub returns-in-None-clause-turns : goal.returns-in-None-clause-turns
+returns-in-None-clause-turns g c = λ breakpoints.
+    let here = first_left _ _ _ _ _ (first_of _ _ c.in-Some.ensures) c.go.invariant.left in
+    let in_packet = c.enter_packet-ahead.ensures in
+    let there = steps_to _ _ c.go.cursor (record_of c.in-Some.here) c.go.invariant.nears.passes.stands here
+    c.enter_packet-ahead.new.cursor c.go_on.new.cursor c.go.left c.enter_packet-ahead.result c.go.meter c.go_on.new.meter
+    c.go_on.ensures.stands (c.go_on.ensures.origin ∙ in_packet.origin) in_packet.packet in_packet.step in_packet.left
+    c.go.invariant.nears.some (c.go_on.ensures.on c.in-None.is) in
+    rw (turns-reply _ _ _ _ _ _ _ (returns-in-None-clause-steps g c breakpoints))
+    (spent_between _ _ _ _ _ _ c.requires.stands (passes_more _ _ _ _ _ _ _ _ c.go.invariant.nears.passes there.0))
 
-pub returns-then-left-eq1-clause-turns : goal.returns-then-left-eq1-clause-turns
-returns-then-left-eq1-clause-turns g c = λ breakpoints.
-    let moved = c.in-Entry.ensures in
-    let on = passes_entry _ _ c.go.cursor c.advance.new.cursor c.go.meter c.advance.new.meter moved.stands moved.moves
-    moved.origin moved.turns in
-    rw (turns-reply _ _ _ _ _ _ _ (returns-then-left-eq1-clause-steps g c breakpoints))
-    (spent_between _ _ _ _ _ _ c.requires.stands (passes_more _ _ _ _ _ _ _ _ c.go.invariant.nears.passes on))
-
-pub go-preserved-in-Entry : goal.go-preserved-in-Entry
-go-preserved-in-Entry g c =
-    let m = c.in-Entry.ensures.moves in
-    let on = nears_entry _ _ c.go.cursor c.advance.new.cursor c.go.left c.go.meter
-    c.advance.new.meter c.in-Entry.ensures.stands m c.in-Entry.ensures.origin (omega (arith, c.go.invariant.nears.some))
-    c.in-Entry.ensures.turns in
-    record {
-      nears = nears_more _ _ _ _ _ _ _ _ _ _ _ c.go.invariant.nears on;
-      left = left_here _ _ _ _ c.go.invariant.left m.2;
-      keeps = keeps_push (λ xs. g.T.Trail.stands_for c.go.trail xs) (λ xs. g.T.Trail.stands_for c.push.new.self xs)
-          (machine_in c.args.loaded.now) (records_in c.args.loaded.now) c.go.cursor.place c.advance.new.cursor m.0
-          c.in-Entry.ensures.stands m.1 m.2 m.3 c.push.ensures c.go.invariant.keeps;
-    }
-
-pub skip_packets-left-requires-in-Packet-clause-left : goal.skip_packets-left-requires-in-Packet-clause-left
-skip_packets-left-requires-in-Packet-clause-left g c =
-    rw c.in-Packet.ensures.moves.0 (left_past _ _ _ _ _ c.pass.ensures c.go.invariant.left
+pub skip_packets-left-requires-in-Some-go_on-clause-left : goal.skip_packets-left-requires-in-Some-go_on-clause-left
+skip_packets-left-requires-in-Some-go_on-clause-left g c =
+    let place = (rw c.in-Some-go_on.is at c.go_on.ensures.out).place in
+    rw (place, c.enter_packet-ahead.ensures.packet) (left_past _ _ _ _ _ c.pass.ensures c.go.invariant.left
     (omega (arith, c.go.invariant.nears.passes.stands.from_one, c.go.invariant.nears.passes.stands.ordered)))
 
-pub skip_packets-left-requires-in-Packet-clause-spare : goal.skip_packets-left-requires-in-Packet-clause-spare
-skip_packets-left-requires-in-Packet-clause-spare g c =
-    let moved = c.in-Packet.ensures in
-    let on = nears_out _ _ c.go.cursor c.advance.new.cursor c.go.left c.go.meter
-    c.advance.new.meter moved.stands moved.moves moved.origin c.go.invariant.nears.some moved.turns in
+pub skip_packets-left-requires-in-Some-go_on-clause-spare : goal.skip_packets-left-requires-in-Some-go_on-clause-spare
+skip_packets-left-requires-in-Some-go_on-clause-spare g c =
+    let here = first_left _ _ _ _ _ (first_of _ _ c.in-Some.ensures) c.go.invariant.left in
+    let in_packet = c.enter_packet-ahead.ensures in
+    let out = steps_out _ _ c.go.cursor (record_of c.in-Some.here) c.go.invariant.nears.passes.stands here
+    c.enter_packet-ahead.new.cursor c.go_on.new.cursor c.go.left c.enter_packet-ahead.result c.go.meter c.go_on.new.meter
+    c.go_on.ensures.stands (c.go_on.ensures.origin ∙ in_packet.origin) in_packet.packet in_packet.step in_packet.left
+    c.go.invariant.nears.some _ (rw c.in-Some-go_on.is at c.go_on.ensures.out) in
     let most = few_after (machine_in c.args.loaded.now) (records_in c.args.loaded.now) c.args.cursor.now.place c.requires.stands.sound c.args.loaded.now.few in
-    omega (arith, most, c.requires.early, c.go.invariant.nears.passes.spent, on.passes.spent)
+    omega (arith, most, c.requires.early, c.go.invariant.nears.passes.spent, out.passes.spent)
+
+packet_order : (p q : Place) → is_before p q ≡ false → q.packet ≤ p.packet
+packet_order p q h = grind (arith, common_steps)
 
 pub go-smaller : goal.go-smaller
-go-smaller g c = grind (arith, common_steps)
+go-smaller g c =
+    let here = first_left _ _ _ _ _ (first_of _ _ c.in-Some.ensures) c.go.invariant.left in
+    let in_packet = c.enter_packet-ahead.ensures in
+    let out = steps_out _ _ c.go.cursor (record_of c.in-Some.here) c.go.invariant.nears.passes.stands here
+    c.enter_packet-ahead.new.cursor c.go_on.new.cursor c.go.left c.enter_packet-ahead.result c.go.meter c.go_on.new.meter
+    c.go_on.ensures.stands (c.go_on.ensures.origin ∙ in_packet.origin) in_packet.packet in_packet.step in_packet.left
+    c.go.invariant.nears.some _ (rw c.in-Some-go_on.is at c.go_on.ensures.out) in
+    let skipped = c.skip_packets-left-in-Some-go_on.ensures in
+    let place = (rw c.in-Some-go_on.is at c.go_on.ensures.out).place in
+    let packet : c.go_on.new.cursor.place.packet ≡ c.go.cursor.place.packet + 1 =
+    ap (λ (q : Place). q.packet) place ∙ rw in_packet.packet refl in
+    omega (
+      arith,
+      packet_order c.skip_packets-left-in-Some-go_on.new.cursor.place c.go_on.new.cursor.place skipped.nears.passes.order,
+      packet,
+      ap length c.go.invariant.left.is,
+      ap length skipped.left.is,
+      out.fewer,
+      skipped.nears.fewer,
+      length-drop (c.go.cursor.place.packet - 1) (records_in c.args.loaded.now),
+      length-drop (c.skip_packets-left-in-Some-go_on.new.cursor.place.packet - 1) (records_in c.args.loaded.now),
+      slice_get_within (records_in c.args.loaded.now) (c.go.cursor.place.packet - 1) (record_of c.in-Some.here) here,
+    )
 
 pub go-preserved : goal.go-preserved
 go-preserved g c =
-    let moved = c.in-Packet.ensures in
-    let skipped = c.skip_packets-left-in-Packet.ensures in
-    let on = nears_out _ _ c.go.cursor c.advance.new.cursor c.go.left c.go.meter
-    c.advance.new.meter moved.stands moved.moves moved.origin c.go.invariant.nears.some moved.turns in
+    let here = first_left _ _ _ _ _ (first_of _ _ c.in-Some.ensures) c.go.invariant.left in
+    let in_packet = c.enter_packet-ahead.ensures in
+    let out = steps_out _ _ c.go.cursor (record_of c.in-Some.here) c.go.invariant.nears.passes.stands here
+    c.enter_packet-ahead.new.cursor c.go_on.new.cursor c.go.left c.enter_packet-ahead.result c.go.meter c.go_on.new.meter
+    c.go_on.ensures.stands (c.go_on.ensures.origin ∙ in_packet.origin) in_packet.packet in_packet.step in_packet.left
+    c.go.invariant.nears.some _ (rw c.in-Some-go_on.is at c.go_on.ensures.out) in
+    let skipped = c.skip_packets-left-in-Some-go_on.ensures in
     record {
-      nears = nears_more _ _ _ _ _ _ _ _ _ _ _ (nears_more _ _ _ _ _ _ _ _ _ _ _ c.go.invariant.nears on) skipped.nears;
+      nears = nears_more _ _ _ _ _ _ _ _ _ _ _ (nears_more _ _ _ _ _ _ _ _ _ _ _ c.go.invariant.nears out) skipped.nears;
       left = skipped.left;
-      keeps = keeps_clear (λ xs. g.T.Trail.stands_for c.clear-in-Packet.new.self xs) (machine_in c.args.loaded.now)
-          (records_in c.args.loaded.now) _ skipped.before c.clear-in-Packet.ensures;
+      keeps = keeps_clear (λ xs. g.T.Trail.stands_for c.clear-in-Some-go_on.new.self xs) (machine_in c.args.loaded.now)
+          (records_in c.args.loaded.now) _ skipped.before c.clear-in-Some-go_on.ensures;
     }
 
 pub returns-clause-steps : goal.returns-clause-steps

@@ -1,9 +1,9 @@
-use Rattle.std.proofs.Common.{refl, ℕ, ◌≤◌, arith, false}
+use Rattle.std.proofs.Common.{refl, ◌∙◌, ℕ, ◌≤◌, arith, false}
 use Rattle.cbpf_machine.specs.Core.{registers}
 use Rattle.cbpf_machine.specs.Registers.{Registers, zero_state}
 use Rattle.cbpf_machine.specs.OnPacket.{IsOnTrace, in_task}
 use Rattle.cbpf_machine.specs.Together.{Reaches}
-use Rattle.cbpf_machine.proofs.TraceLemmas.{ended_last}
+use Rattle.cbpf_machine.proofs.TraceLemmas.{ended_last, outcome_at_end}
 use Rattle.cbpf_machine.proofs.FollowLemmas.{reaches_fenced}
 use Rattle.cbpf_machine.proofs.reach.go_on.Given.{Over}
 use Rattle.cbpf_machine.proofs.reach.go_on.Goals.{After-make_turns-turns}
@@ -33,4 +33,4 @@ returns-in-Some-clause-goes g c = λ i on.
     let h = reached g (goal.at.returns-in-Some-clause-goes g c).After-make_turns-turns i on in
     let end = (rw c.in-Some.is at h.0).arrives in
     let last = ended_last end.0 _ end.1 in
-    (some, h.1, omega (arith, last, some))
+    (some, h.1, omega (arith, last, some), c.from.ensures ∙ outcome_at_end end.0 _ end.1)
