@@ -46,11 +46,19 @@ advance-preserved g c =
       spent = omega (arith, rw c.in-Ok.is at c.go_on.ensures.turns, c.advance.invariant.spent);
     }
 
+pub outcome_at-requires : goal.outcome_at-requires
+outcome_at-requires g c =
+    let end = rw c.in-Err.is at (c.go_on.ensures.goes _ c.advance.invariant.here) in (
+      g.Self.Trail.kept c.args.self.now + c.advance.made - 1 + c.in-Err.field-0 - 1,
+      rw c.of-in-Err.ensures end.3,
+      omega (arith, end.2, end.0),
+    )
+
 pub returns-in-Err-clause-follows : goal.returns-in-Err-clause-follows
 returns-in-Err-clause-follows g c =
     let end = rw c.in-Err.is at (c.go_on.ensures.goes _ c.advance.invariant.here) in
     let within = slice_get_within (trace_in (in_task c.args.task.now)) _ c.args.s.now c.requires.last in
-    rw end.3 (ends_by _ _ c.requires.from_one _ c.args.s.now c.args.count (omega (arith, within, c.requires.from_one))
+    rw c.outcome_at.ensures (ends_by _ _ c.requires.from_one _ c.args.s.now c.args.count (omega (arith, within, c.requires.from_one))
     (omega (arith, end.2, end.1, c.min-most.ensures, c.advance-test.true, c.advance.invariant.kept, c.requires.from_one)))
 
 pub returns-clause-follows : goal.returns-clause-follows
