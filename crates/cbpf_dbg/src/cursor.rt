@@ -41,7 +41,7 @@ pub(crate) struct Walk<'a> {
 /// Where a move led.
 #[derive(Clone, Copy)]
 pub(crate) enum Moved {
-    /// To the packet's next entry.
+    /// To an entry of the packet.
     Entry,
     /// Out of the packet, before the next one.
     Packet,

@@ -101,7 +101,7 @@ fn enter_packet<T: Trail, A: Allocator>(
 
 /// Goes on from an entry of a packet, whose record is `here`, by `n` entries: `None`. Or goes out of the packet: how many
 /// entries are left then.
-fn go_on<T: Trail, A: Allocator>(
+fn step_in_packet<T: Trail, A: Allocator>(
     meter: &mut Meter,
     loaded: &Loaded<'_, A>,
     here: &Captured<'_>,
@@ -174,7 +174,7 @@ pub(crate) fn step_on<T: Trail, A: Allocator>(
     }
     'go: while let Some(here) = records.first() {
         let ahead = enter_packet(loaded, &here, cursor, trail, left);
-        match go_on(meter, loaded, &here, cursor, trail, ahead) {
+        match step_in_packet(meter, loaded, &here, cursor, trail, ahead) {
             None => {
                 cursor.start = here.start;
                 return RunReply::Stopped(stop_at(loaded.program, loaded.values, cursor, Why::Step));

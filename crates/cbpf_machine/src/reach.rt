@@ -1,23 +1,21 @@
 //! How far a packet goes, by a state of its own.
 
-ghost use Rattle.std.specs.Prelude.{◌≡◌, ◌<◌, ◌≤◌, ◌+◌, ◌-◌, ◌^◌, ℕ, length, IfErr, MatchResult, OnOk};
+ghost use Rattle.std.specs.Prelude.{◌≡◌, ◌<◌, ◌≤◌, ◌+◌, ◌^◌, ℕ, length, IfErr, MatchResult, OnOk};
 ghost use Rattle.cbpf_machine.specs.Core.{registers};
-ghost use Rattle.cbpf_machine.specs.Task.{entries_in, outcome_in};
-ghost use Rattle.cbpf_machine.specs.OnPacket.{IsOnTrace, in_task};
+ghost use Rattle.cbpf_machine.specs.Task.{entries_in};
+ghost use Rattle.cbpf_machine.specs.OnPacket.{IsOnTrace, GoesBy, in_task};
 
-use crate::execute::make_turn;
-use crate::follow::make_turns;
+use crate::follow::{Followed, make_turns};
 use crate::meter::Meter;
 use crate::outcome::Outcome;
 use crate::pause::Never;
-use crate::state::{Core, State};
+use crate::state::Core;
 use crate::task::Task;
 use cbpf_code::SLOTS;
 use std::alloc::Allocator;
 
-/// Goes on from an entry of a packet's trace by at most `most` turns, 1 at least: how many it made. Or goes on to the
-/// packet's last entry, whose turn it makes too: how many it made then.
-// It doesn't say how the packet ended, as the loop is faster where nobody asks.
+/// Goes on from an entry of a packet's trace by at most `most` turns, 1 at least: how many it made, or how many up to
+/// the packet's end.
 #[inline(never)]
 pub(crate) fn go_on<A: Allocator>(
     meter: &mut Meter,
@@ -32,8 +30,7 @@ pub(crate) fn go_on<A: Allocator>(
     ensures goes { (i : ℕ) → IsOnTrace (in_task task.now) i (registers s.old slots.old)
         → MatchResult result (λ n. (1 ≤ n) × (n ≤ most)
         × IsOnTrace (in_task task.now) (i + n) (registers s.new slots.new))
-        (λ n. (1 ≤ n) × (n ≤ most) × (length (entries_in task.now) ≡ i + n)
-        × IsOnTrace (in_task task.now) (i + n - 1) (registers s.new slots.new)) }
+        (λ n. (1 ≤ n) × (n ≤ most) × (length (entries_in task.now) ≡ i + n)) }
     ensures turns { MatchResult result (λ n. meter.new ≡ meter.old + n) (λ n. meter.new ≡ meter.old + n) }
 {
     let _few = task.program.len();
@@ -49,15 +46,32 @@ pub(crate) fn go_on<A: Allocator>(
     }
 }
 
-/// How a packet ends, by its last entry.
-pub(crate) fn outcome_at<A: Allocator>(task: &Task<'_, A>, last: State) -> Outcome
-    requires { (i : ℕ) × IsOnTrace (in_task task.now) i last × (i + 1 ≡ length (entries_in task.now)) }
-    ensures { result ≡ outcome_in task.now }
+/// The same, and how the packet ended.
+// Apart, as the loop of turns is faster where nobody asks for that.
+#[inline(never)]
+pub(crate) fn go_on_or_end<A: Allocator>(
+    meter: &mut Meter,
+    task: &Task<'_, A>,
+    most: u32,
+    s: &mut Core,
+    slots: &mut [u32; SLOTS],
+) -> Followed
+    requires some { 1 ≤ most }
+    requires on { (i : ℕ) × IsOnTrace (in_task task.now) i (registers s.old slots.old) }
+    requires spare { meter.old + most < 2 ^ 128 }
+    ensures goes { (i : ℕ) → IsOnTrace (in_task task.now) i (registers s.old slots.old)
+        → GoesBy (in_task task.now) i most (registers s.new slots.new) meter.old meter.new result }
 {
-    let mut s = last;
-    match make_turn(task.program, task.packet, task.values, &mut s) {
-        Some(end) => Outcome::from(end),
-        None => unreachable!(),
+    let _few = task.program.len();
+    let fence = s.pc + most as usize;
+    // A copy, which the loop of turns keeps in registers.
+    let mut here = *s;
+    let (turns, end) = make_turns::<_, A, 3>(&Never, false, Some(fence), task, &mut here, slots);
+    *s = here;
+    meter.add(turns);
+    match end {
+        None => Followed::Paused(turns),
+        Some(end) => Followed::Ended(Outcome::from(end)),
     }
 }
 

@@ -282,6 +282,9 @@ fn check_onward<T: Trail>(rt: &impl Test, trail: &mut T, p: &Program) {
     for (count, watched) in &ONWARD {
         let found = filled_and_followed(rt, trail, p, *count, *watched);
         assert_at_both(rt, *count, *watched, is_onward(found, *count, *watched));
+        let (stays, s, turns) = filled_and_advanced(rt, trail, p, *count, 0);
+        let is_same = stays == Followed::Paused(0) && is_entry(&s, *count) && turns == 0;
+        assert_at(rt, *count as usize, is_same);
         // As many entries on, or more than are ahead.
         let more = if *watched < *count {
             4096

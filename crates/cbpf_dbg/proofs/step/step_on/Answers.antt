@@ -40,29 +40,29 @@ go-init g c = elim c.if-cursor-eq0.branch [
 pub enter_packet-ahead-requires-clause-here : goal.enter_packet-ahead-requires-clause-here
 enter_packet-ahead-requires-clause-here g c = first_left _ _ _ _ _ (first_of _ _ c.in-Some.ensures) c.go.invariant.left
 
-pub go_on-requires-clause-here : goal.go_on-requires-clause-here
-go_on-requires-clause-here g c =
+pub step_in_packet-requires-clause-here : goal.step_in_packet-requires-clause-here
+step_in_packet-requires-clause-here g c =
     rw c.enter_packet-ahead.ensures.packet (first_left _ _ _ _ _ (first_of _ _ c.in-Some.ensures) c.go.invariant.left)
 
 -- no more turns are made than were owed
-pub go_on-requires-clause-spare : goal.go_on-requires-clause-spare
-go_on-requires-clause-spare g c =
+pub step_in_packet-requires-clause-spare : goal.step_in_packet-requires-clause-spare
+step_in_packet-requires-clause-spare g c =
     let most = few_after (machine_in c.args.loaded.now) (records_in c.args.loaded.now) c.args.cursor.now.place c.requires.stands.sound c.args.loaded.now.few in
     omega (arith, most, c.requires.early, c.go.invariant.nears.passes.spent)
 
 pub stop_at-requires : goal.stop_at-requires
 stop_at-requires g c =
     let here = first_left _ _ _ _ _ (first_of _ _ c.in-Some.ensures) c.go.invariant.left in
-    let place = (c.go_on.ensures.on c.in-None.is).place in
-    let packet : c.go_on.new.cursor.place.packet ≡ c.go.cursor.place.packet =
+    let place = (c.step_in_packet.ensures.on c.in-None.is).place in
+    let packet : c.step_in_packet.new.cursor.place.packet ≡ c.go.cursor.place.packet =
     ap (λ (q : Place). q.packet) place ∙ c.enter_packet-ahead.ensures.packet in
-    (goes _ _ c.go_on.new.cursor (record_of c.in-Some.here) c.go_on.ensures.stands (rw packet here)
+    (goes _ _ c.step_in_packet.new.cursor (record_of c.in-Some.here) c.step_in_packet.ensures.stands (rw packet here)
     (omega (arith, ap (λ (q : Place). q.step) place, c.enter_packet-ahead.ensures.step))).inside
 
 pub returns-in-None-clause-start : goal.returns-in-None-clause-start
 returns-in-None-clause-start g c =
-    let place = (c.go_on.ensures.on c.in-None.is).place in
-    let packet : c.go_on.new.cursor.place.packet ≡ c.go.cursor.place.packet =
+    let place = (c.step_in_packet.ensures.on c.in-None.is).place in
+    let packet : c.step_in_packet.new.cursor.place.packet ≡ c.go.cursor.place.packet =
     ap (λ (q : Place). q.packet) place ∙ c.enter_packet-ahead.ensures.packet in
     rw packet (start_first _ _ _ _ c.go.invariant.left c.in-Some.ensures)
 
@@ -71,11 +71,11 @@ returns-in-None-clause-steps g c = λ breakpoints.
     let here = first_left _ _ _ _ _ (first_of _ _ c.in-Some.ensures) c.go.invariant.left in
     let in_packet = c.enter_packet-ahead.ensures in
     let there = steps_to _ _ c.go.cursor (record_of c.in-Some.here) c.go.invariant.nears.passes.stands here
-    c.enter_packet-ahead.new.cursor c.go_on.new.cursor c.go.left c.enter_packet-ahead.result c.go.meter c.go_on.new.meter
-    c.go_on.ensures.stands (c.go_on.ensures.origin ∙ in_packet.origin) in_packet.packet in_packet.step in_packet.left
-    c.go.invariant.nears.some (c.go_on.ensures.on c.in-None.is) in
+    c.enter_packet-ahead.new.cursor c.step_in_packet.new.cursor c.go.left c.enter_packet-ahead.result c.go.meter c.step_in_packet.new.meter
+    c.step_in_packet.ensures.stands (c.step_in_packet.ensures.origin ∙ in_packet.origin) in_packet.packet in_packet.step in_packet.left
+    c.go.invariant.nears.some (c.step_in_packet.ensures.on c.in-None.is) in
     step_stopped (machine_in c.args.loaded.now) c.args.loaded.now.capture.now breakpoints c.args.n c.args.cursor.now
-    (record c.go_on.new.cursor { start = c.in-Some.here.start }) (record_of c.in-Some.here) c.stop_at.result
+    (record c.step_in_packet.new.cursor { start = c.in-Some.here.start }) (record_of c.in-Some.here) c.stop_at.result
     (c.go.invariant.nears.sought ∙ there.1) (c.stop_at.ensures (record_of c.in-Some.here))
     (there.0.origin ∙ c.go.invariant.nears.passes.origin)
 
@@ -84,26 +84,26 @@ returns-in-None-clause-turns g c = λ breakpoints.
     let here = first_left _ _ _ _ _ (first_of _ _ c.in-Some.ensures) c.go.invariant.left in
     let in_packet = c.enter_packet-ahead.ensures in
     let there = steps_to _ _ c.go.cursor (record_of c.in-Some.here) c.go.invariant.nears.passes.stands here
-    c.enter_packet-ahead.new.cursor c.go_on.new.cursor c.go.left c.enter_packet-ahead.result c.go.meter c.go_on.new.meter
-    c.go_on.ensures.stands (c.go_on.ensures.origin ∙ in_packet.origin) in_packet.packet in_packet.step in_packet.left
-    c.go.invariant.nears.some (c.go_on.ensures.on c.in-None.is) in
+    c.enter_packet-ahead.new.cursor c.step_in_packet.new.cursor c.go.left c.enter_packet-ahead.result c.go.meter c.step_in_packet.new.meter
+    c.step_in_packet.ensures.stands (c.step_in_packet.ensures.origin ∙ in_packet.origin) in_packet.packet in_packet.step in_packet.left
+    c.go.invariant.nears.some (c.step_in_packet.ensures.on c.in-None.is) in
     rw (turns-reply _ _ _ _ _ _ _ (returns-in-None-clause-steps g c breakpoints))
     (spent_between _ _ _ _ _ _ c.requires.stands (passes_more _ _ _ _ _ _ _ _ c.go.invariant.nears.passes there.0))
 
-pub skip_packets-left-requires-in-Some-go_on-clause-left : goal.skip_packets-left-requires-in-Some-go_on-clause-left
-skip_packets-left-requires-in-Some-go_on-clause-left g c =
-    let place = (rw c.in-Some-go_on.is at c.go_on.ensures.out).place in
+pub skip_packets-left-requires-in-Some-step_in_packet-clause-left : goal.skip_packets-left-requires-in-Some-step_in_packet-clause-left
+skip_packets-left-requires-in-Some-step_in_packet-clause-left g c =
+    let place = (rw c.in-Some-step_in_packet.is at c.step_in_packet.ensures.out).place in
     rw (place, c.enter_packet-ahead.ensures.packet) (left_past _ _ _ _ _ c.pass.ensures c.go.invariant.left
     (omega (arith, c.go.invariant.nears.passes.stands.from_one, c.go.invariant.nears.passes.stands.ordered)))
 
-pub skip_packets-left-requires-in-Some-go_on-clause-spare : goal.skip_packets-left-requires-in-Some-go_on-clause-spare
-skip_packets-left-requires-in-Some-go_on-clause-spare g c =
+pub skip_packets-left-requires-in-Some-step_in_packet-clause-spare : goal.skip_packets-left-requires-in-Some-step_in_packet-clause-spare
+skip_packets-left-requires-in-Some-step_in_packet-clause-spare g c =
     let here = first_left _ _ _ _ _ (first_of _ _ c.in-Some.ensures) c.go.invariant.left in
     let in_packet = c.enter_packet-ahead.ensures in
     let out = steps_out _ _ c.go.cursor (record_of c.in-Some.here) c.go.invariant.nears.passes.stands here
-    c.enter_packet-ahead.new.cursor c.go_on.new.cursor c.go.left c.enter_packet-ahead.result c.go.meter c.go_on.new.meter
-    c.go_on.ensures.stands (c.go_on.ensures.origin ∙ in_packet.origin) in_packet.packet in_packet.step in_packet.left
-    c.go.invariant.nears.some _ (rw c.in-Some-go_on.is at c.go_on.ensures.out) in
+    c.enter_packet-ahead.new.cursor c.step_in_packet.new.cursor c.go.left c.enter_packet-ahead.result c.go.meter c.step_in_packet.new.meter
+    c.step_in_packet.ensures.stands (c.step_in_packet.ensures.origin ∙ in_packet.origin) in_packet.packet in_packet.step in_packet.left
+    c.go.invariant.nears.some _ (rw c.in-Some-step_in_packet.is at c.step_in_packet.ensures.out) in
     let most = few_after (machine_in c.args.loaded.now) (records_in c.args.loaded.now) c.args.cursor.now.place c.requires.stands.sound c.args.loaded.now.few in
     omega (arith, most, c.requires.early, c.go.invariant.nears.passes.spent, out.passes.spent)
 
@@ -115,23 +115,23 @@ go-smaller g c =
     let here = first_left _ _ _ _ _ (first_of _ _ c.in-Some.ensures) c.go.invariant.left in
     let in_packet = c.enter_packet-ahead.ensures in
     let out = steps_out _ _ c.go.cursor (record_of c.in-Some.here) c.go.invariant.nears.passes.stands here
-    c.enter_packet-ahead.new.cursor c.go_on.new.cursor c.go.left c.enter_packet-ahead.result c.go.meter c.go_on.new.meter
-    c.go_on.ensures.stands (c.go_on.ensures.origin ∙ in_packet.origin) in_packet.packet in_packet.step in_packet.left
-    c.go.invariant.nears.some _ (rw c.in-Some-go_on.is at c.go_on.ensures.out) in
-    let skipped = c.skip_packets-left-in-Some-go_on.ensures in
-    let place = (rw c.in-Some-go_on.is at c.go_on.ensures.out).place in
-    let packet : c.go_on.new.cursor.place.packet ≡ c.go.cursor.place.packet + 1 =
+    c.enter_packet-ahead.new.cursor c.step_in_packet.new.cursor c.go.left c.enter_packet-ahead.result c.go.meter c.step_in_packet.new.meter
+    c.step_in_packet.ensures.stands (c.step_in_packet.ensures.origin ∙ in_packet.origin) in_packet.packet in_packet.step in_packet.left
+    c.go.invariant.nears.some _ (rw c.in-Some-step_in_packet.is at c.step_in_packet.ensures.out) in
+    let skipped = c.skip_packets-left-in-Some-step_in_packet.ensures in
+    let place = (rw c.in-Some-step_in_packet.is at c.step_in_packet.ensures.out).place in
+    let packet : c.step_in_packet.new.cursor.place.packet ≡ c.go.cursor.place.packet + 1 =
     ap (λ (q : Place). q.packet) place ∙ rw in_packet.packet refl in
     omega (
       arith,
-      packet_order c.skip_packets-left-in-Some-go_on.new.cursor.place c.go_on.new.cursor.place skipped.nears.passes.order,
+      packet_order c.skip_packets-left-in-Some-step_in_packet.new.cursor.place c.step_in_packet.new.cursor.place skipped.nears.passes.order,
       packet,
       ap length c.go.invariant.left.is,
       ap length skipped.left.is,
       out.fewer,
       skipped.nears.fewer,
       length-drop (c.go.cursor.place.packet - 1) (records_in c.args.loaded.now),
-      length-drop (c.skip_packets-left-in-Some-go_on.new.cursor.place.packet - 1) (records_in c.args.loaded.now),
+      length-drop (c.skip_packets-left-in-Some-step_in_packet.new.cursor.place.packet - 1) (records_in c.args.loaded.now),
       slice_get_within (records_in c.args.loaded.now) (c.go.cursor.place.packet - 1) (record_of c.in-Some.here) here,
     )
 
@@ -140,15 +140,15 @@ go-preserved g c =
     let here = first_left _ _ _ _ _ (first_of _ _ c.in-Some.ensures) c.go.invariant.left in
     let in_packet = c.enter_packet-ahead.ensures in
     let out = steps_out _ _ c.go.cursor (record_of c.in-Some.here) c.go.invariant.nears.passes.stands here
-    c.enter_packet-ahead.new.cursor c.go_on.new.cursor c.go.left c.enter_packet-ahead.result c.go.meter c.go_on.new.meter
-    c.go_on.ensures.stands (c.go_on.ensures.origin ∙ in_packet.origin) in_packet.packet in_packet.step in_packet.left
-    c.go.invariant.nears.some _ (rw c.in-Some-go_on.is at c.go_on.ensures.out) in
-    let skipped = c.skip_packets-left-in-Some-go_on.ensures in
+    c.enter_packet-ahead.new.cursor c.step_in_packet.new.cursor c.go.left c.enter_packet-ahead.result c.go.meter c.step_in_packet.new.meter
+    c.step_in_packet.ensures.stands (c.step_in_packet.ensures.origin ∙ in_packet.origin) in_packet.packet in_packet.step in_packet.left
+    c.go.invariant.nears.some _ (rw c.in-Some-step_in_packet.is at c.step_in_packet.ensures.out) in
+    let skipped = c.skip_packets-left-in-Some-step_in_packet.ensures in
     record {
       nears = nears_more _ _ _ _ _ _ _ _ _ _ _ (nears_more _ _ _ _ _ _ _ _ _ _ _ c.go.invariant.nears out) skipped.nears;
       left = skipped.left;
-      keeps = keeps_clear (λ xs. g.T.Trail.stands_for c.clear-in-Some-go_on.new.self xs) (machine_in c.args.loaded.now)
-          (records_in c.args.loaded.now) _ skipped.before c.clear-in-Some-go_on.ensures;
+      keeps = keeps_clear (λ xs. g.T.Trail.stands_for c.clear-in-Some-step_in_packet.new.self xs) (machine_in c.args.loaded.now)
+          (records_in c.args.loaded.now) _ skipped.before c.clear-in-Some-step_in_packet.ensures;
     }
 
 pub returns-clause-steps : goal.returns-clause-steps

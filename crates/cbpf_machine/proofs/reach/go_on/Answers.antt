@@ -25,7 +25,7 @@ add-requires g c =
 pub returns-in-None-clause-goes : goal.returns-in-None-clause-goes
 returns-in-None-clause-goes g c = λ i on.
     let h = reached g (goal.at.returns-in-None-clause-goes g c).After-make_turns-turns i on in
-    (c.make_turns-turns.ensures.some refl, h.1, (rw c.in-None.is at h.0).arrives)
+    ((c.make_turns-turns.ensures.some refl), h.1, (rw c.in-None.is at h.0).arrives)
 
 pub returns-in-Some-clause-goes : goal.returns-in-Some-clause-goes
 returns-in-Some-clause-goes g c = λ i on.
@@ -33,4 +33,4 @@ returns-in-Some-clause-goes g c = λ i on.
     let h = reached g (goal.at.returns-in-Some-clause-goes g c).After-make_turns-turns i on in
     let end = (rw c.in-Some.is at h.0).arrives in
     let last = ended_last end.0 _ end.1 in
-    (some, h.1, omega (arith, last, some), end.0)
+    (some, h.1, omega (arith, last, some))

@@ -21,21 +21,21 @@ advance-init g c =
 
 pub keep-requires-clause-few : goal.keep-requires-clause-few
 keep-requires-clause-few g c =
-    let to = rw c.in-Ok.is at (c.go_on.ensures.goes _ c.advance.invariant.here) in
-    let within = slice_get_within (trace_in (in_task c.args.task.now)) _ (registers c.go_on.new.s c.go_on.new.slots)
+    let to = rw c.in-Paused.is at (c.go_on_or_end.ensures.goes _ c.advance.invariant.here) in
+    let within = slice_get_within (trace_in (in_task c.args.task.now)) _ (registers c.go_on_or_end.new.s c.go_on_or_end.new.slots)
     (goes_at to.2) in
     let all = few_entries (in_task c.args.task.now) c.advance.invariant.here.sound in
     omega (arith, within, all, to.0, c.advance.invariant.kept, c.requires.from_one)
 
 pub advance-preserved : goal.advance-preserved
 advance-preserved g c =
-    let to = rw c.in-Ok.is at (c.go_on.ensures.goes _ c.advance.invariant.here) in
-    let i : g.Self.Trail.kept c.args.self.now + c.advance.made - 1 + c.in-Ok.turns
-    ≡ g.Self.Trail.kept c.args.self.now + (c.advance.made + c.in-Ok.turns) - 1 = omega (arith, c.requires.from_one) in
+    let to = rw c.in-Paused.is at (c.go_on_or_end.ensures.goes _ c.advance.invariant.here) in
+    let i : g.Self.Trail.kept c.args.self.now + c.advance.made - 1 + c.in-Paused.turns
+    ≡ g.Self.Trail.kept c.args.self.now + (c.advance.made + c.in-Paused.turns) - 1 = omega (arith, c.requires.from_one) in
     let here = rw i at to.2 in
     let k = c.advance.invariant.kept in
-    let n : g.Self.Trail.kept c.advance.self + c.in-Ok.turns
-    ≡ g.Self.Trail.kept c.args.self.now + (c.advance.made + c.in-Ok.turns) = omega (arith, k) in
+    let n : g.Self.Trail.kept c.advance.self + c.in-Paused.turns
+    ≡ g.Self.Trail.kept c.args.self.now + (c.advance.made + c.in-Paused.turns) = omega (arith, k) in
     let kept = c.keep.ensures.stands (trace_in (in_task c.args.task.now))
     (rw (n, c.of.ensures) (goes_at here)) (rw k c.advance.invariant.stands) in
     record {
@@ -43,23 +43,15 @@ advance-preserved g c =
       kept = omega (arith, kept.1, k);
       here = here;
       stands = rw n at kept.0;
-      spent = omega (arith, rw c.in-Ok.is at c.go_on.ensures.turns, c.advance.invariant.spent);
+      spent = omega (arith, to.3, c.advance.invariant.spent);
     }
 
-pub outcome_at-requires : goal.outcome_at-requires
-outcome_at-requires g c =
-    let end = rw c.in-Err.is at (c.go_on.ensures.goes _ c.advance.invariant.here) in (
-      g.Self.Trail.kept c.args.self.now + c.advance.made - 1 + c.in-Err.field-0 - 1,
-      rw c.of-in-Err.ensures end.3,
-      omega (arith, end.2, end.0),
-    )
-
-pub returns-in-Err-clause-follows : goal.returns-in-Err-clause-follows
-returns-in-Err-clause-follows g c =
-    let end = rw c.in-Err.is at (c.go_on.ensures.goes _ c.advance.invariant.here) in
+pub returns-in-Ended-clause-follows : goal.returns-in-Ended-clause-follows
+returns-in-Ended-clause-follows g c =
+    let end = rw c.in-Ended.is at (c.go_on_or_end.ensures.goes _ c.advance.invariant.here) in
     let within = slice_get_within (trace_in (in_task c.args.task.now)) _ c.args.s.now c.requires.last in
-    rw c.outcome_at.ensures (ends_by _ _ c.requires.from_one _ c.args.s.now c.args.count (omega (arith, within, c.requires.from_one))
-    (omega (arith, end.2, end.1, c.min-most.ensures, c.advance-test.true, c.advance.invariant.kept, c.requires.from_one)))
+    rw end.2 (ends_by _ _ c.requires.from_one _ c.args.s.now c.args.count (omega (arith, within, c.requires.from_one))
+    (omega (arith, end.1, c.min-most.ensures, c.advance-test.true, c.advance.invariant.kept, c.requires.from_one)))
 
 pub returns-clause-follows : goal.returns-clause-follows
 returns-clause-follows g c =

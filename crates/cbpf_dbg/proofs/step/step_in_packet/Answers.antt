@@ -5,7 +5,7 @@ use Rattle.cbpf_dbg.specs.Loaded.{machine_in, records_in}
 use Rattle.cbpf_dbg.proofs.CountLemmas.{countable}
 use Rattle.cbpf_dbg.proofs.KeepLemmas.{kept_here, keeps_followed}
 use Rattle.cbpf_dbg.proofs.StepLemmas.{on_by, out_by, steps_fit_by}
-use Rattle.cbpf_dbg.proofs.step.go_on.Goals as goal
+use Rattle.cbpf_dbg.proofs.step.step_in_packet.Goals as goal
 
 pub apply-requires-clause-counts : goal.apply-requires-clause-counts
 apply-requires-clause-counts g c = countable _ _ c.args.cursor.now c.requires.stands c.args.loaded.now.few
