@@ -93,8 +93,7 @@ fn filled_and_followed<T: Trail>(
     (followed, s, meter.spent())
 }
 
-/// Fills a trail, and goes on from its last entry by so many: where the packet then is, the state, and how many turns
-/// that took.
+/// Fills a trail, and goes on from its last entry by so many: where the packet then is, the state, and the turns.
 fn filled_and_advanced<T: Trail>(
     rt: &impl Test,
     trail: &mut T,
@@ -286,11 +285,8 @@ fn check_onward<T: Trail>(rt: &impl Test, trail: &mut T, p: &Program) {
         let is_same = stays == Followed::Paused(0) && is_entry(&s, *count) && turns == 0;
         assert_at(rt, *count as usize, is_same);
         // As many entries on, or more than are ahead.
-        let more = if *watched < *count {
-            4096
-        } else {
-            (*watched - *count).saturating_add(1)
-        };
+        let ahead = watched.checked_sub(*count);
+        let more = ahead.map_or(4096, |n| n.saturating_add(1));
         let found = filled_and_advanced(rt, trail, p, *count, more);
         assert_at_both(rt, *count, *watched, is_onward(found, *count, *watched));
     }
