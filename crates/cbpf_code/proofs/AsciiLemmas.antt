@@ -2,6 +2,7 @@
 use Rattle.std.proofs.Common.{◌≡◌, ◌<◌, ◌+◌, ℕ, zero, suc, ◌/◌, ◌%◌, List, [], ◌∷◌, ◌++◌, refl, arith, ltb-true, true, false, Bool, Some, None}
 use Rattle.std.specs.Prelude.{codes, decimal, nat_lt, ◌==◌, ◌&&◌, if◌then◌else◌, Option, slice_get}
 use Rattle.std.specs.List.{repeat}
+use Rattle.std.specs.Option.{option_map_or}
 use Rattle.std.specs.Fmt.{digits, digits_onto, digit_glyph}
 use Rattle.std.specs.Str.{IsAscii, IsUtf8}
 use Rattle.std.proofs.lemmas.Bool.Decides.{nat_tests}
@@ -10,7 +11,7 @@ use Rattle.std.proofs.lemmas.Str.{IsAscii-append, IsUtf8-from_ascii}
 use Rattle.std.proofs.lemmas.Str.Ascii.{IsAscii-nil, IsAscii-cons}
 use Rattle.cbpf_code.specs.Extension.{ext_at, ext_name}
 use Rattle.cbpf_code.specs.Listing.{head, immediate_operand, line_text, operand_text}
-use Rattle.cbpf_code.specs.Listing.{operation_text, place_or_name, targets, text_for, text_where}
+use Rattle.cbpf_code.specs.Listing.{operation_text, offset_or_name, targets, insn_text}
 use Rattle.cbpf_code.specs.Opcode.{op_of}
 use Rattle.cbpf_code.specs.Syntax.{Operand, mnemonic_of, operand_of}
 use Rattle.cbpf_code.specs.Syntax.Operand.{Bare, X, A, Length, Immediate, Absolute, Indexed, Memory, Header, Label}
@@ -89,9 +90,9 @@ in_immediate k =
     either (k == 0) _ _ (plain (codes " #0") refl)
     (IsAscii-append (codes " #0x") _ (plain (codes " #0x") refl) (in_hex 1 k))
 
-in_place : (o : Option Ext) (k : ℕ) → IsAscii (place_or_name o k)
-in_place None k = with_one (codes " [") k (codes "]") (plain (codes " [") refl) (plain (codes "]") refl)
-in_place (Some e) k =
+in_absolute : (o : Option Ext) (k : ℕ) → IsAscii (offset_or_name o k)
+in_absolute None k = with_one (codes " [") k (codes "]") (plain (codes " [") refl) (plain (codes "]") refl)
+in_absolute (Some e) k =
     IsAscii-append (codes " ") _ (plain (codes " ") refl) (IsAscii-append (ext_name e) [] (in_name e) IsAscii-nil)
 
 in_targets : (i : ℕ) (insn : Insn) → IsAscii (targets i insn)
@@ -106,7 +107,7 @@ in_operand X i insn = plain (codes " x") refl
 in_operand A i insn = plain (codes " a") refl
 in_operand Length i insn = plain (codes " len") refl
 in_operand Immediate i insn = in_immediate insn.k
-in_operand Absolute i insn = in_place (ext_at insn.k) insn.k
+in_operand Absolute i insn = in_absolute (ext_at insn.k) insn.k
 in_operand Indexed i insn = with_one (codes " [x + ") insn.k (codes "]") (plain (codes " [x + ") refl) (plain (codes "]") refl)
 in_operand Memory i insn = with_one (codes " M[") insn.k (codes "]") (plain (codes " M[") refl) (plain (codes "]") refl)
 in_operand Header i insn = with_one (codes " 4*([") insn.k (codes "]&0xf)") (plain (codes " 4*([") refl) (plain (codes "]&0xf)") refl)
@@ -152,11 +153,11 @@ in_operation i insn o =
     IsAscii-append (head i (mnemonic_of o)) (operand_text (operand_of o) i insn)
     (in_head i (mnemonic_of o) (in_mnemonic o)) (in_operand (operand_of o) i insn)
 
-in_text : (i : ℕ) (insn : Insn) (o : Option Op) → IsAscii (text_for i insn o)
+in_text : (i : ℕ) (insn : Insn) (o : Option Op) → IsAscii (option_map_or (operation_text i insn) o [])
 in_text i insn None = IsAscii-nil
 in_text i insn (Some o) = in_operation i insn o
 
-in_line : (i : ℕ) (o : Option Insn) → IsAscii (text_where i o)
+in_line : (i : ℕ) (o : Option Insn) → IsAscii (option_map_or (insn_text i) o [])
 in_line i None = IsAscii-nil
 in_line i (Some insn) = in_text i insn (op_of insn.code)
 

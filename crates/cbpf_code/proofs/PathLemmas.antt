@@ -15,7 +15,7 @@ use Rattle.cbpf_code.specs.declared.checker.CheckFault.{CheckFault}
 use Rattle.cbpf_code.specs.declared.checker.CheckFault.TheVariants.{UnwrittenSlot}
 use Rattle.cbpf_code.specs.declared.checker.TheConstants.{MAX_INSTRUCTIONS, SLOTS}
 use Rattle.cbpf_code.specs.Opcode.{op_of}
-use Rattle.cbpf_code.specs.ControlFlow.{next_places, IsAmong, IsSuccessor, StoresSlot, MayBeUnwritten}
+use Rattle.cbpf_code.specs.ControlFlow.{successors, IsAmong, IsSuccessor, StoresSlot, MayBeUnwritten}
 use Rattle.cbpf_code.specs.ControlFlow.{loads_slot, stores_slot}
 use Rattle.cbpf_code.specs.ControlFlow.MayBeUnwritten.{at_start, onward}
 use Rattle.cbpf_code.specs.Faults.{uses_slot, HasFault, FirstFault, rank, index_of}
@@ -26,7 +26,7 @@ use Rattle.cbpf_code.proofs.Decided.{Decided, is_true, both, either, not, least,
 use Rattle.cbpf_code.proofs.FaultLemmas.{insn_at-same}
 
 successor-same : (list : List Insn) (i t : ℕ) (insn : Insn) (op : Op) → IsSuccessor list i t
-    → slice_get list i ≡ Some insn → op_of insn.code ≡ Some op → IsAmong (next_places (Some op) insn i) t
+    → slice_get list i ≡ Some insn → op_of insn.code ≡ Some op → IsAmong (successors (Some op) insn i) t
 successor-same list i t insn op next here known = grind arith
 
 -- ---- paths
@@ -80,13 +80,13 @@ reached-further : (list : List Insn) (s m t : ℕ) → ReachedUnwritten list s m
 reached-further list s m t (inl first) = inl first
 reached-further list s m t (inr r) = inr (r.0, omega arith, r.2, r.3, r.4)
 
-pub tracks_paths-next : (list : List Insn) (i : ℕ) (insn : Insn) (op : Op) (masks next_masks : List ℕ) (left : ℕ)
+pub tracks_paths-next : (list : List Insn) (i : ℕ) (insn : Insn) (op : Op) (masks next_masks : List ℕ) (after : ℕ)
     → slice_get list i ≡ Some insn → op_of insn.code ≡ Some op → TracksPaths list i masks
-    → LeavesUnwritten (slice_index masks i) op insn left
-    → AddsToMasks masks next_masks left (λ t. IsAmong (next_places (Some op) insn i) t)
+    → LeavesUnwritten (slice_index masks i) op insn after
+    → AddsToMasks masks next_masks after (λ t. IsAmong (successors (Some op) insn i) t)
     → (IsTrue (loads_slot op) → insn.k < SLOTS)
     → (IsTrue (loads_slot op) × InMaskOf masks i insn.k → ⊥) → TracksPaths list (i + 1) next_masks
-tracks_paths-next list i insn op masks next_masks left here known tracks leaves adds small_k fine = record {
+tracks_paths-next list i insn op masks next_masks after here known tracks leaves adds small_k fine = record {
   long = adds.long ∙ tracks.long;
   only_reached = λ t s small set.
       elim (adds.only t s set) [
@@ -166,7 +166,7 @@ among [] t = inr (λ h. h)
 among (p ∷ ps) t = either (cases_eq t p) (among ps t)
 
 successor : (list : List Insn) (i t : ℕ) → Decided (IsSuccessor list i t)
-successor list i t = found (slice_get list i) _ (λ insn. among (next_places (op_of insn.code) insn i) t)
+successor list i t = found (slice_get list i) _ (λ insn. among (successors (op_of insn.code) insn i) t)
 
 -- instruction h passes slot s on to t unwritten
 abbrev PassesOn : List Insn → ℕ → ℕ → ℕ → Type 0

@@ -11,7 +11,7 @@ use Rattle.cbpf_code.specs.declared.insn.Insn.{Insn}
 use Rattle.cbpf_code.specs.declared.opcode.Op.{Op}
 use Rattle.cbpf_code.specs.declared.opcode.Op.TheVariants.{Ja, Jump, RetK, RetA}
 use Rattle.cbpf_code.specs.declared.checker.TheConstants.{SLOTS}
-use Rattle.cbpf_code.specs.ControlFlow.{next_places, IsAmong, stores_slot}
+use Rattle.cbpf_code.specs.ControlFlow.{successors, IsAmong, stores_slot}
 use Rattle.cbpf_code.specs.SlotMasks.{InMask, LeavesUnwritten, AddsToMasks}
 
 -- ---- one mask
@@ -39,14 +39,14 @@ leaves_unwritten-cleared mask op insn within stores = record {
 
 -- ---- the masks of all instructions
 
-pub adds_to_masks-one : (masks : List ℕ) (at left : ℕ) → at < length masks
-    → AddsToMasks masks (slice_set masks at (bit_or (slice_index masks at) left)) left (λ t. t ≡ at)
-adds_to_masks-one masks at left inside =
+pub adds_to_masks-one : (masks : List ℕ) (at mask : ℕ) → at < length masks
+    → AddsToMasks masks (slice_set masks at (bit_or (slice_index masks at) mask)) mask (λ t. t ≡ at)
+adds_to_masks-one masks at mask inside =
     grind (arith, length-set, cases_eq, get_or-set_at, in_mask-or, get_or-set_other, in_or-mask)
 
 pub follows-next : (op : Op) (insn : Insn) (i : ℕ) → (op ≡ Ja → ⊥)
     → ((cond_is : _) (src : _) → op ≡ Jump cond_is src → ⊥) → (op ≡ RetK → ⊥) → (op ≡ RetA → ⊥)
-    → IsAmong (next_places (Some op) insn i) (i + 1)
+    → IsAmong (successors (Some op) insn i) (i + 1)
 follows-next Ja insn i a b c d = absurd (a refl)
 follows-next (Jump k src) insn i a b c d = absurd (b k src refl)
 follows-next RetK insn i a b c d = absurd (c refl)

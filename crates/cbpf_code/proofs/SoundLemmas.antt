@@ -12,7 +12,7 @@ use Rattle.cbpf_code.specs.declared.checker.TheConstants.{MAX_INSTRUCTIONS, SLOT
 use Rattle.cbpf_code.specs.declared.extension.TheConstants.{FIRST_EXTENSION}
 use Rattle.cbpf_code.specs.Opcode.{op_of}
 use Rattle.cbpf_code.specs.Extension.{ext_at}
-use Rattle.cbpf_code.specs.ControlFlow.{next_places, jump_targets, IsAmong}
+use Rattle.cbpf_code.specs.ControlFlow.{successors, jump_targets, IsAmong}
 use Rattle.cbpf_code.specs.Faults.{uses_slot, divides_by_k, shifts_by_k, loads_absolute}
 use Rattle.cbpf_code.specs.Sound.{IsSound}
 use Rattle.cbpf_code.specs.CheckSteps.{IsWellFormed}
@@ -59,7 +59,7 @@ formed_allowed list i insn op formed here known = record {
 }
 
 allowed_next : (op : Op) (insn : Insn) (i n t : ℕ) → Allowed op insn i n → i < n
-    → (i + 1 ≡ n → ((op ≡ RetK) ⊎ (op ≡ RetA) → ⊥) → ⊥) → IsAmong (next_places (Some op) insn i) t → t < n
+    → (i + 1 ≡ n → ((op ≡ RetK) ⊎ (op ≡ RetA) → ⊥) → ⊥) → IsAmong (successors (Some op) insn i) t → t < n
 allowed_next Ja insn i n t allowed below last h = allowed.targets t h
 allowed_next (Jump cond src) insn i n t allowed below last h = allowed.targets t h
 allowed_next RetK insn i n t allowed below last h = absurd h
@@ -69,7 +69,7 @@ allowed_next _ insn i n t allowed below last h =
     elim h [ inl e ↦ omega (arith, e) | inr n ↦ absurd n ]
 
 pub formed_next : (list : List Insn) (i : ℕ) (insn : Insn) (op : Op) → IsWellFormed list
-    → slice_get list i ≡ Some insn → op_of insn.code ≡ Some op → (t : ℕ) → IsAmong (next_places (Some op) insn i) t
+    → slice_get list i ≡ Some insn → op_of insn.code ≡ Some op → (t : ℕ) → IsAmong (successors (Some op) insn i) t
     → t < length list
 formed_next list i insn op formed here known t follows =
     allowed_next op insn i (length list) t (formed_allowed list i insn op formed here known)
@@ -104,5 +104,5 @@ sound_allowed list i insn op sound here known = formed_allowed list i insn op (w
 
 -- what follows an instruction of a checked program is one of its indices
 pub sound_next : (list : List Insn) (i : ℕ) (insn : Insn) (op : Op) → IsSound list → slice_get list i ≡ Some insn
-    → op_of insn.code ≡ Some op → (t : ℕ) → IsAmong (next_places (Some op) insn i) t → t < length list
+    → op_of insn.code ≡ Some op → (t : ℕ) → IsAmong (successors (Some op) insn i) t → t < length list
 sound_next list i insn op sound here known = formed_next list i insn op (well_formed list sound) here known

@@ -8,7 +8,7 @@ use Rattle.std.proofs.lemmas.Fmt.{decimal_is_IsNumeral, decimal_nonempty}
 use Rattle.std.proofs.lemmas.List.Elements.{All-head, All-tail}
 use Rattle.std.proofs.lemmas.Str.{digit_value_digit}
 use Rattle.std.proofs.lemmas.Str.Parse.{digit_from_value}
-use Rattle.cbpf_code.specs.WordTokens.{numeral, is_digit, begins_with_digit, decimal_value, tokens_placed}
+use Rattle.cbpf_code.specs.WordTokens.{numeral, is_digit, begins_with_digit, decimal_value, tokens_at}
 use Rattle.cbpf_code.specs.WordText.{Due, count, count_comma, code, jt, jf, k, comma, next_due, limit_of}
 use Rattle.cbpf_code.specs.WordText.{first_word_fault, numbers, Spells}
 use Rattle.cbpf_code.specs.WordForm.{InRange, word_line, word_text}
@@ -42,7 +42,7 @@ some_digits [] l e = omega (arith, l)
 some_digits (c ∷ cs) l e = cc
 
 tokens-decimal : (at n : ℕ) (rest : List ℕ) → n < 2 ^ 64 → begins_with_digit rest ≡ false
-    → tokens_placed at (decimal n ++ rest) ≡ numeral at (decimal n) ∷ tokens_placed (at + length (decimal n)) rest
+    → tokens_at at (decimal n ++ rest) ≡ numeral at (decimal n) ∷ tokens_at (at + length (decimal n)) rest
 tokens-decimal at n rest h stop =
     grind (arith, law-numeral, some_digits, decimal_nonempty, all_digits, decimal_is_IsNumeral)
 
@@ -51,8 +51,8 @@ tokens-decimal at n rest h stop =
 -- wherever the text stands, nothing is wrong with it where something is due, and its numbers are ns
 abbrev Reads : List ℕ → Due → List ℕ → Type 0
 Reads text due ns =
-    (at : ℕ) → ((n : ℕ) → first_word_fault due n (tokens_placed at text) ≡ None)
-    × (numbers (tokens_placed at text) ≡ ns)
+    (at : ℕ) → ((n : ℕ) → first_word_fault due n (tokens_at at text) ≡ None)
+    × (numbers (tokens_at at text) ≡ ns)
 
 reads-newline : Reads (codes "\n") code []
 reads-newline at = rw (law-blank at 10 [] refl, law-empty (at + 1)) ((λ n. refl), refl)

@@ -6,36 +6,36 @@ use Rattle.std.proofs.lemmas.Bool.{cases_Bool, cases_lt, eq-eqb, eqb-true}
 use Rattle.std.proofs.Math.Seq.{take-append_seam, drop-append_seam}
 use Rattle.std.proofs.lemmas.List.{drop_all}
 use Rattle.cbpf_code.specs.WordTokens.{WordToken, numeral, single, is_digit, is_blank, begins_with_digit, tokens_in}
-use Rattle.cbpf_code.specs.WordTokens.{tokens_placed, tokens_from}
+use Rattle.cbpf_code.specs.WordTokens.{tokens_at, tokens_from}
 
 blank_no_digit : (b : ℕ) → is_blank b ≡ true → is_digit b ≡ false
 blank_no_digit b e = grind (arith, tests)
 
 -- the four ways in which a text begins
 
-pub law-empty : (at : ℕ) → tokens_placed at [] ≡ []
+pub law-empty : (at : ℕ) → tokens_at at [] ≡ []
 unfolding tokens_in
 law-empty at = refl
 
-pub law-blank : (at b : ℕ) (rest : List ℕ) → is_blank b ≡ true → tokens_placed at (b ∷ rest) ≡ tokens_placed (at + 1) rest
+pub law-blank : (at b : ℕ) (rest : List ℕ) → is_blank b ≡ true → tokens_at at (b ∷ rest) ≡ tokens_at (at + 1) rest
 unfolding tokens_in
 law-blank at b rest e = rw (add-one, blank_no_digit b e, e) refl
 
 pub law-single : (at b : ℕ) (rest : List ℕ) → is_blank b ≡ false → is_digit b ≡ false
-    → tokens_placed at (b ∷ rest) ≡ single at b ∷ tokens_placed (at + 1) rest
+    → tokens_at at (b ∷ rest) ≡ single at b ∷ tokens_at (at + 1) rest
 unfolding tokens_in
 law-single at b rest n d = rw (add-one, d, n) refl
 
 -- what follows a numeral
 after_numeral : (at : ℕ) (bs : List ℕ)
-    → tokens_in true at bs ≡ tokens_placed (at + prefix_len is_digit bs) (drop (prefix_len is_digit bs) bs)
+    → tokens_in true at bs ≡ tokens_at (at + prefix_len is_digit bs) (drop (prefix_len is_digit bs) bs)
 unfolding tokens_in
 after_numeral at [] = refl
 after_numeral at (b ∷ bs) = elim (cases_Bool (is_digit b)) [
   | inl e ↦
       let one : 1 + prefix_len is_digit bs ≡ suc (prefix_len is_digit bs) = omega arith in
       let seam : suc at + prefix_len is_digit bs ≡ at + suc (prefix_len is_digit bs) = omega arith in
-      rw (e, one) (after_numeral (suc at) bs ∙ ap (λ p. tokens_placed p (drop (prefix_len is_digit bs) bs)) seam)
+      rw (e, one) (after_numeral (suc at) bs ∙ ap (λ p. tokens_at p (drop (prefix_len is_digit bs) bs)) seam)
   | inr e ↦ let z : at + 0 ≡ at = omega arith in rw (e, z, e) refl
 ]
 
@@ -47,7 +47,7 @@ numeral-length (d ∷ ds) rest all stop = let more = numeral-length ds rest all.
 
 pub law-numeral : (at : ℕ) (digits rest : List ℕ) → digits ≢ [] → AllByRecursion (λ b. is_digit b ≡ true) digits
     → begins_with_digit rest ≡ false
-    → tokens_placed at (digits ++ rest) ≡ numeral at digits ∷ tokens_placed (at + length digits) rest
+    → tokens_at at (digits ++ rest) ≡ numeral at digits ∷ tokens_at (at + length digits) rest
 unfolding tokens_in
 law-numeral at [] rest some all stop = absurd (some refl)
 law-numeral at (d ∷ ds) rest some all stop =
@@ -79,14 +79,14 @@ step-numeral text i l d =
     let one : 1 + n ≡ suc n = omega arith in
     let seam : suc i + n ≡ i + suc n = omega arith in
     let rest : tokens_in true (suc i) bs ≡ tokens_from text (i + suc n) =
-    after_numeral (suc i) bs ∙ ap (tokens_placed (suc i + n)) (drop-drop n (suc i) text) ∙ ap (tokens_from text) seam in
+    after_numeral (suc i) bs ∙ ap (tokens_at (suc i + n)) (drop-drop n (suc i) text) ∙ ap (tokens_from text) seam in
     rw (drop-cons text i 0 l, d, one)
     (ap (λ (ms : List WordToken). numeral i (get_or text i 0 ∷ take_while is_digit bs) ∷ ms) rest)
 
 pub ruleset token_steps = (step-blank, step-single, step-end)
 
 -- a byte that is no blank begins a token
-tokens-some : (at b : ℕ) (bs : List ℕ) → is_blank b ≡ false → tokens_placed at (b ∷ bs) ≡ [] → ⊥
+tokens-some : (at b : ℕ) (bs : List ℕ) → is_blank b ≡ false → tokens_at at (b ∷ bs) ≡ [] → ⊥
 unfolding tokens_in
 tokens-some at b bs n e = elim (cases_Bool (is_digit b)) [
   | inl d ↦ let f = rw d at e in cc

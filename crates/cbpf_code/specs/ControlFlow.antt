@@ -12,30 +12,30 @@ abbrev pub InsnAt : List Insn → ℕ → (Op → Insn → Type 0) → Type 0
 InsnAt list i Has =
     (insn : Insn) × (op : Op) × (slice_get list i ≡ Some insn) × (op_of insn.code ≡ Some op) × Has op insn
 
--- the places to which the instruction at i may jump
+-- the indices to which the instruction at i may jump
 abbrev pub jump_targets : Op → Insn → ℕ → List ℕ
 jump_targets Ja insn i = (i + 1 + insn.k) ∷ []
 jump_targets (Jump cond src) insn i = (i + 1 + insn.jt) ∷ (i + 1 + insn.jf) ∷ []
 jump_targets _ insn i = []
 
--- The places that may follow the instruction at i: none after a return, its targets after a jump, and else the next
--- one. An unknown code also goes on to the next.
-abbrev pub next_places : Option Op → Insn → ℕ → List ℕ
-next_places (Some RetK) insn i = []
-next_places (Some RetA) insn i = []
-next_places (Some Ja) insn i = jump_targets Ja insn i
-next_places (Some (Jump cond src)) insn i = jump_targets (Jump cond src) insn i
-next_places _ insn i = (i + 1) ∷ []
+-- The indices of the instructions that may follow the one at i: none after a return, its targets after a jump, and else
+-- the next one. An unknown code also goes on to the next.
+abbrev pub successors : Option Op → Insn → ℕ → List ℕ
+successors (Some RetK) insn i = []
+successors (Some RetA) insn i = []
+successors (Some Ja) insn i = jump_targets Ja insn i
+successors (Some (Jump cond src)) insn i = jump_targets (Jump cond src) insn i
+successors _ insn i = (i + 1) ∷ []
 
--- t is one of the places
+-- t is one of the indices
 abbrev pub IsAmong : List ℕ → ℕ → Type 0
 IsAmong [] t = ⊥
-IsAmong (p ∷ ps) t = (t ≡ p) ⊎ IsAmong ps t
+IsAmong (i ∷ is) t = (t ≡ i) ⊎ IsAmong is t
 
 -- an edge of the jump graph from i to t
 abbrev pub IsSuccessor : List Insn → ℕ → ℕ → Type 0
 IsSuccessor list i t =
-    (insn : Insn) × (slice_get list i ≡ Some insn) × IsAmong (next_places (op_of insn.code) insn i) t
+    (insn : Insn) × (slice_get list i ≡ Some insn) × IsAmong (successors (op_of insn.code) insn i) t
 
 abbrev pub loads_slot : Op → Bool
 loads_slot LdMem = true

@@ -60,7 +60,7 @@ ShiftsTooFar op insn = IsTrue (shifts_by_k op) × (32 ≤ insn.k)
 abbrev pub JumpsOutside : Op → Insn → ℕ → ℕ → Type 0
 JumpsOutside op insn i n = (t : ℕ) × IsAmong (jump_targets op insn i) t × (n ≤ t)
 
--- C8: an absolute load whose k is 0xfffff000 or more, and no extension has this place
+-- C8: an absolute load whose k is 0xfffff000 or more, and no extension has this number
 abbrev pub LoadsUnknownExtension : Op → Insn → Type 0
 LoadsUnknownExtension op insn = IsTrue (loads_absolute op) × (FIRST_EXTENSION ≤ insn.k) × (ext_at insn.k ≡ None)
 
@@ -82,7 +82,7 @@ index_of (UnknownExtension i) = i
 index_of (UnwrittenSlot i) = i
 index_of _ = 0
 
--- a list has a fault, from C1 to C10
+-- a list has a fault, from C1 to C10 in this order
 abbrev pub HasFault : List Insn → CheckFault → Type 0
 HasFault list NoInstruction = length list ≡ 0
 HasFault list TooMany = MAX_INSTRUCTIONS < length list

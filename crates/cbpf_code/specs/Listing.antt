@@ -1,9 +1,10 @@
--- The listing of a program: a line for each instruction, its mnemonic as `Syntax` has it, and its operand, in the
--- syntax of the kernel's Documentation/networking/filter ("BPF engine and instruction set") where it has one. The label
+-- The listing of a program: a line for each instruction, its mnemonic as `Syntax` has it, and its operand. This has the
+-- syntax of the kernel's Documentation/networking/filter ("BPF engine and instruction set") where that shows one. The label
 -- before each instruction, `l` and its index, and targets as these labels, are those of its examples of `disassemble`.
 -- All else is this project's own.
 use Rattle.std.specs.Prelude.{ℕ, ◌+◌, ◌==◌, if◌then◌else◌, List, [], ◌∷◌, ◌++◌, Option, Some, None, slice_get, codes}
 use Rattle.std.specs.Prelude.{decimal}
+use Rattle.std.specs.Option.{option_map_or}
 use Rattle.std.specs.List.{flat_map, enumerate_from}
 use Rattle.cbpf_code.specs.declared.insn.Insn.{Insn}
 use Rattle.cbpf_code.specs.declared.opcode.Op.{Op}
@@ -23,10 +24,10 @@ head i word = concat (codes "l" ∷ decimal i ∷ codes ":\t" ∷ word ∷ [])
 abbrev pub immediate_operand : ℕ → List ℕ
 immediate_operand k = if k == 0 then codes " #0" else codes " #0x" ++ hex 1 k
 
--- a place of the packet, or the name of the extension that has the place
-abbrev pub place_or_name : Option Ext → ℕ → List ℕ
-place_or_name None k = with_number (codes " [") k (codes "]")
-place_or_name (Some e) k = concat (codes " " ∷ ext_name e ∷ [])
+-- an offset in the packet, or the name of the extension that has this number
+abbrev pub offset_or_name : Option Ext → ℕ → List ℕ
+offset_or_name None k = with_number (codes " [") k (codes "]")
+offset_or_name (Some e) k = concat (codes " " ∷ ext_name e ∷ [])
 
 -- the targets of the conditional jump at an index: where it holds, and where it doesn't
 abbrev pub targets : ℕ → Insn → List ℕ
@@ -39,7 +40,7 @@ operand_text X i insn = codes " x"
 operand_text A i insn = codes " a"
 operand_text Length i insn = codes " len"
 operand_text Immediate i insn = immediate_operand insn.k
-operand_text Absolute i insn = place_or_name (ext_at insn.k) insn.k
+operand_text Absolute i insn = offset_or_name (ext_at insn.k) insn.k
 operand_text Indexed i insn = with_number (codes " [x + ") insn.k (codes "]")
 operand_text Memory i insn = with_number (codes " M[") insn.k (codes "]")
 operand_text Header i insn = with_number (codes " 4*([") insn.k (codes "]&0xf)")
@@ -51,23 +52,13 @@ operand_text XTwo i insn = codes " x" ++ targets i insn
 abbrev pub operation_text : ℕ → Insn → Op → List ℕ
 operation_text i insn op = head i (mnemonic_of op) ++ operand_text (operand_of op) i insn
 
--- a code that no operation has, has no text
-abbrev pub text_for : ℕ → Insn → Option Op → List ℕ
-text_for i insn None = []
-text_for i insn (Some op) = operation_text i insn op
-
--- the instruction at an index: its label, its mnemonic and its operand
+-- the instruction at an index: its label, its mnemonic and its operand; a code that no operation has, has no text
 abbrev pub insn_text : ℕ → Insn → List ℕ
-insn_text i insn = text_for i insn (op_of insn.code)
+insn_text i insn = option_map_or (operation_text i insn) (op_of insn.code) []
 
--- the instruction at an index, where the list has one
-abbrev pub text_where : ℕ → Option Insn → List ℕ
-text_where i None = []
-text_where i (Some insn) = insn_text i insn
-
--- line i without its newline
+-- line i without its newline, where the list has an instruction at i
 abbrev pub line_text : List Insn → ℕ → List ℕ
-line_text list i = text_where i (slice_get list i)
+line_text list i = option_map_or (insn_text i) (slice_get list i) []
 
 -- the line of an instruction that stands beside its index, with its newline
 abbrev pub numbered_line : ℕ × Insn → List ℕ

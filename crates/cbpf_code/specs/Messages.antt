@@ -20,7 +20,7 @@ out_of_memory = codes "out of memory"
 abbrev pub write_fault : List ℕ
 write_fault = codes "write fault"
 
--- N1 to N5, which name a byte by its place in the text, or two counts; out of memory has no number
+-- N1 to N5, which name a byte by its position in the text, or two counts; out of memory has no number
 abbrev pub word_message : WordFault → List ℕ
 word_message word.Memory = out_of_memory
 word_message (word.NumberExpected p) = with_number (codes "N1 at byte ") p (codes ": number expected")

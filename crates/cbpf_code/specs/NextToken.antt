@@ -17,7 +17,7 @@ abbrev pub HasValue : List ℕ → FoundToken → TokenKind → Type 0
 HasValue text f (Digits v) = v ≡ min (decimal_value (slice_range text f.start f.end)) (2 ^ 32)
 HasValue text f (Byte b) = Unit {0}
 
--- the token is the first one of the text from this place on
+-- the token is the first one of the text from this position on
 pub record IsFound (text : List ℕ) (at : ℕ) (f : FoundToken) : Type 0 where
   pub within : f.end ≤ length text
   pub after : at < f.end

@@ -15,11 +15,11 @@ InMask mask s = bit_at mask s ≡ 1
 abbrev pub InMaskOf : List ℕ → ℕ → ℕ → Type 0
 InMaskOf masks t s = InMask (slice_index masks t) s
 
--- the slots of a mask into which an instruction stores nothing
-pub record LeavesUnwritten (mask : ℕ) (op : Op) (insn : Insn) (left : ℕ) : Type 0 where
-  pub kept : (s : ℕ) → s < SLOTS → InMask mask s → (IsTrue (stores_slot op) → insn.k ≢ s) → InMask left s
-  pub only : (s : ℕ) → s < SLOTS → InMask left s → InMask mask s
-  pub stored : (s : ℕ) → s < SLOTS → InMask left s → IsTrue (stores_slot op) → insn.k ≢ s
+-- the mask `after` has those slots of `mask` into which the instruction stores nothing
+pub record LeavesUnwritten (mask : ℕ) (op : Op) (insn : Insn) (after : ℕ) : Type 0 where
+  pub kept : (s : ℕ) → s < SLOTS → InMask mask s → (IsTrue (stores_slot op) → insn.k ≢ s) → InMask after s
+  pub only : (s : ℕ) → s < SLOTS → InMask after s → InMask mask s
+  pub stored : (s : ℕ) → s < SLOTS → InMask after s → IsTrue (stores_slot op) → insn.k ≢ s
 
 -- a mask was added to the masks of the instructions To, and to no other
 pub record AddsToMasks (old new : List ℕ) (added_mask : ℕ) (To : ℕ → Type 0) : Type 0 where

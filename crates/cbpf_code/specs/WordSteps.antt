@@ -5,12 +5,12 @@ use Rattle.cbpf_code.specs.WordText.{Due, first_word_fault, fault_of, numbers}
 use Rattle.cbpf_code.specs.declared.insn.Insn.{Insn}
 use Rattle.cbpf_code.specs.declared.words.WordFault.{WordFault}
 
--- the first thing wrong from a place on
+-- the first thing wrong from a position on
 abbrev pub fault_from : List ℕ → Due → ℕ → Option WordFault
 fault_from text due at = first_word_fault due (length text) (tokens_from text at)
 
 -- The numbers from `at` on are these and then those from `end` on. The first thing wrong from `at` on, where `due` is
--- due, is the first from `end` on, where `next` is due. So the tokens between have no fault, as theirs would name a place before
+-- due, is the first from `end` on, where `next` is due. So the tokens between have no fault, as theirs would name a position before
 -- `end`.
 pub record PassesTokens (text : List ℕ) (due : Due) (at : ℕ) (ns : List ℕ) (next : Due) (end : ℕ) : Type 0 where
   pub within : end ≤ length text
@@ -18,7 +18,7 @@ pub record PassesTokens (text : List ℕ) (due : Due) (at : ℕ) (ns : List ℕ)
   pub good : fault_from text due at ≡ fault_from text next end
   pub spelled : numbers (tokens_from text at) ≡ ns ++ numbers (tokens_from text end)
 
--- `e` is the first thing wrong from a place on. A step that finds no token there may answer `at_end`, even where the
+-- `e` is the first thing wrong from a position on. A step that finds no token there may answer `at_end`, even where the
 -- text may end; who asks for the step has looked for the end before.
 abbrev pub IsFaultAt : List ℕ → Due → ℕ → WordFault → WordFault → Type 0
 IsFaultAt text due at e at_end = (fault_from text due at ≡ Some e) ⊎ ((tokens_from text at ≡ []) × (e ≡ at_end))

@@ -44,14 +44,14 @@ token_fault None (single p b) = if b == 44 then None else Some (UnexpectedByte p
 token_fault (Some limit) (numeral p ds) = if nat_lt (decimal_value ds) limit then None else Some (OutOfRange p)
 token_fault (Some limit) (single p b) = if b == 44 then Some (NumberExpected p) else Some (UnexpectedByte p)
 
--- what is wrong with the end of the text, at place n: it may stand after an instruction and after a comma
+-- what is wrong with the end of the text, at position n: it may stand after an instruction and after a comma
 abbrev pub end_fault : Due → ℕ → Option WordFault
 end_fault count_comma n = Some (CommaExpected n)
 end_fault code n = None
 end_fault comma n = None
 end_fault _ n = Some (NumberExpected n)
 
--- the first thing wrong with the tokens up to the end at place n
+-- the first thing wrong with the tokens up to the end at position n
 abbrev pub first_word_fault : Due → ℕ → List WordToken → Option WordFault
 first_word_fault due n [] = end_fault due n
 first_word_fault due n (t ∷ ts) = option_or (token_fault (limit_of due) t) (first_word_fault (next_due due) n ts)
@@ -91,7 +91,7 @@ pub record Miscounts (text : List ℕ) (e : WordFault) : Type 0 where
   pub differs : count_of text ≢ length (list_of text)
   pub fault : e ≡ CountDiffers (count_of text) (length (list_of text))
 
--- The fault that the text has. `Memory` says only that the text has five numbers or more, in whatever places: room is
+-- The fault that the text has. `Memory` says only that the text has five numbers or more, wherever they stand: room is
 -- first asked for after the count and the four numbers of an instruction.
 abbrev pub Refused : List ℕ → WordFault → Type 0
 Refused text Memory = 5 ≤ length (numbers (tokens text))

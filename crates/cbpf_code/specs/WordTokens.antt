@@ -5,7 +5,7 @@ use Rattle.std.specs.Prelude.{ℕ, suc, ◌+◌, ◌-◌, ◌*◌, Bool, true, f
 use Rattle.std.specs.Prelude.{[], ◌∷◌, drop, fold}
 use Rattle.std.specs.List.{take_while}
 
--- a numeral, which is a run of digits, or a single byte, with the place of its first byte
+-- a numeral, which is a run of digits, or a single byte, with the position of its first byte
 pub data WordToken : Type 0 where
   numeral : (at : ℕ) (digits : List ℕ) → WordToken
   single : (at : ℕ) (byte : ℕ) → WordToken
@@ -22,7 +22,7 @@ abbrev pub begins_with_digit : List ℕ → Bool
 begins_with_digit [] = false
 begins_with_digit (b ∷ bs) = is_digit b
 
--- the tokens that begin in a text whose first byte has the place `at`: within a numeral a digit begins none
+-- the tokens that begin in a text whose first byte has the position `at`: within a numeral a digit begins none
 unfoldable pub tokens_in : (in_numeral : Bool) → ℕ → List ℕ → List WordToken
 tokens_in in_numeral at [] = []
 tokens_in in_numeral at (b ∷ bs) =
@@ -30,17 +30,17 @@ tokens_in in_numeral at (b ∷ bs) =
     else (numeral at (b ∷ take_while is_digit bs) ∷ tokens_in true (suc at) bs))
     else (if is_blank b then tokens_in false (suc at) bs else (single at b ∷ tokens_in false (suc at) bs))
 
--- the tokens of a text whose first byte has the place `at`
-abbrev pub tokens_placed : ℕ → List ℕ → List WordToken
-tokens_placed at text = tokens_in false at text
+-- the tokens of a text whose first byte has the position `at`
+abbrev pub tokens_at : ℕ → List ℕ → List WordToken
+tokens_at at text = tokens_in false at text
 
 -- the tokens of a whole text
 abbrev pub tokens : List ℕ → List WordToken
-tokens text = tokens_placed 0 text
+tokens text = tokens_at 0 text
 
--- the tokens of a text from a place on
+-- the tokens of a text from a position on
 abbrev pub tokens_from : List ℕ → ℕ → List WordToken
-tokens_from text at = tokens_placed at (drop at text)
+tokens_from text at = tokens_at at (drop at text)
 
 -- the number that digits spell
 abbrev pub decimal_value : List ℕ → ℕ

@@ -15,7 +15,7 @@ fn prefix_of(n: u32) -> &'static [u8]
     if n == 0 { b"00" } else { b"0x" }
 }
 
-/// Puts a number in decimal, right in two places.
+/// Puts a number in decimal, right-aligned in two columns.
 #[inline(always)]
 #[tactic(auto, using(crate::proofs::DigitLemmas::one_or_more_digits))]
 fn prepend_padded(line: &mut Line, n: u8)
@@ -49,7 +49,7 @@ fn write_c_line<W: Write>(w: &mut W, insn: Insn) -> Result<(), WriteFault>
 }
 
 /// Writes one line an instruction, as `{ 0x28,  0,  0, 0x0000000c },`: the code and k in
-/// hexadecimal, or zeros alone where they are 0, and jt and jf in decimal, right in two places.
+/// hexadecimal, or zeros alone where they are 0, and jt and jf in decimal, right-aligned in two columns.
 #[tactic(auto, using(crate::proofs::WrittenLemmas::loops))]
 pub fn write_c<W: Write>(w: &mut W, list: &[Insn]) -> Result<(), WriteFault>
     ensures { Wrote (W.contents w.old) (W.contents w.new) result (c_form list.now) }

@@ -45,7 +45,7 @@ pub enum CheckFault {
     WideShift(u32),
     /// C7: a target of a jump is after the last instruction.
     JumpOutside(u32),
-    /// C8: an absolute load from 4294963200 or more where no extension has its place.
+    /// C8: an absolute load from 4294963200 or more where no extension has this number.
     UnknownExtension(u32),
     /// C9: the last instruction is no return.
     NoReturn,

@@ -1,10 +1,10 @@
-//! The extensions: their names, and the places of a packet that stand for them.
+//! The extensions: their names, and the offsets of loads that stand for them.
 
 ghost use Rattle.std.specs.Prelude.{◌≡◌, ◌+◌, ℕ, Some};
 ghost use Rattle.cbpf_code.specs.Extension as spec;
 ghost use Rattle.cbpf_code.specs.declared.extension.TheConstants.{FIRST_EXTENSION};
 
-/// An extension of Linux: what an absolute load from a place that no packet has asks for instead
+/// An extension of Linux: what an absolute load from an offset that no packet has asks for instead
 /// (Documentation/networking/filter, "BPF engine and instruction set", the table of extensions).
 #[derive(Clone, Copy, Debug, PartialEq, Eq)]
 pub enum Ext {
@@ -25,10 +25,10 @@ pub enum Ext {
     VlanTpid,
 }
 
-/// The place of the first extension; SKF_AD_OFF as an unsigned number.
+/// The number of the first extension; SKF_AD_OFF as an unsigned number.
 pub const FIRST_EXTENSION: u32 = 0xfffff000;
 
-/// The table of the 15 extensions: place, extension and name, handed row by row to one of the four
+/// The table of the 15 extensions: number, extension and name, handed row by row to one of the four
 /// macros below.
 macro_rules! extensions {
     ($reading:ident, $value:expr) => {
@@ -53,25 +53,25 @@ macro_rules! extensions {
     };
 }
 
-macro_rules! ext_of_place {
-    ($value:expr; $($place:literal => $ext:expr, $name:literal;)*) => {
+macro_rules! ext_of_number {
+    ($value:expr; $($number:literal => $ext:expr, $name:literal;)*) => {
         Some(match $value {
-            $($place => $ext,)*
+            $($number => $ext,)*
             _ => return None,
         })
     };
 }
 
 macro_rules! offset_of_ext {
-    ($value:expr; $($place:literal => $ext:pat, $name:literal;)*) => {
+    ($value:expr; $($number:literal => $ext:pat, $name:literal;)*) => {
         match $value {
-            $($ext => $place - FIRST_EXTENSION,)*
+            $($ext => $number - FIRST_EXTENSION,)*
         }
     };
 }
 
 macro_rules! name_of_ext {
-    ($value:expr; $($place:literal => $ext:pat, $name:literal;)*) => {
+    ($value:expr; $($number:literal => $ext:pat, $name:literal;)*) => {
         match $value {
             $($ext => $name,)*
         }
@@ -79,24 +79,24 @@ macro_rules! name_of_ext {
 }
 
 macro_rules! each_ext {
-    ($value:expr; $($place:literal => $ext:expr, $name:literal;)*) => {
+    ($value:expr; $($number:literal => $ext:expr, $name:literal;)*) => {
         [$($ext,)*]
     };
 }
 
-/// All extensions, in the order of their places.
+/// All extensions, in the order of their numbers.
 static EXTENSIONS: [Ext; 15] = extensions!(each_ext, ());
 
-/// The extension that an absolute load from place `k` asks for; `None` where the place has none.
+/// The extension that an absolute load from offset `k` asks for; `None` where no extension has this number.
 #[inline(always)]
 #[tactic(auto, unfolding(crate::specs::Extension::ext_at))]
 pub fn ext_at(k: u32) -> Option<Ext>
     ensures { result ≡ spec.ext_at k }
 {
-    extensions!(ext_of_place, k)
+    extensions!(ext_of_number, k)
 }
 
-/// How far the extension's place is above that of the first one; 0 to 60.
+/// How far the extension's number is above that of the first one; 0 to 60.
 #[tactic(auto, using(crate::proofs::TableLemmas::tables), unfolding(crate::specs::Extension::ext_at))]
 pub fn ext_offset(e: Ext) -> u32
     ensures value { result ≡ spec.ext_offset e }

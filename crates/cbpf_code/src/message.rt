@@ -6,7 +6,7 @@ use std::fmt;
 
 /// What a fault says: a text, and the numbers in it. It has neither `error: ` nor a newline.
 ///
-/// Faults of many kinds give it as data, so that each text stands at one place.
+/// Faults of many kinds give it as data, so that each text stands once.
 #[derive(Clone, Copy, Debug)]
 pub enum Message {
     /// A text.

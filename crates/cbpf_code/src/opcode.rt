@@ -45,7 +45,7 @@ pub enum Cond {
 /// An operation of classic BPF (Documentation/networking/filter, "BPF engine and instruction set").
 ///
 /// `Ld` loads the accumulator and `Ldx` the index register: a number (`Imm`), bytes of the packet
-/// at a fixed place (`Abs`) or at one relative to the index register (`Ind`), a slot of the scratch
+/// at a fixed offset (`Abs`) or at one relative to the index register (`Ind`), a slot of the scratch
 /// memory (`Mem`), the packet's length (`Len`), or the length of an IP header (`Msh`).
 #[derive(Clone, Copy, Debug, PartialEq, Eq)]
 pub enum Op {
@@ -192,7 +192,7 @@ pub fn op_of(code: u16) -> Option<Op>
 
 /// The operation of a code below 256; `None` where no operation has the code.
 ///
-/// The compiler makes it a table of 256 places, with no test before it: for loops that look up many codes.
+/// The compiler makes it a table of 256 entries, with no test before it: for loops that look up many codes.
 #[inline(always)]
 #[tactic(auto, unfolding(crate::specs::Opcode::op_of))]
 pub fn op_of_byte(code: u8) -> Option<Op>

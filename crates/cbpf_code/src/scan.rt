@@ -3,7 +3,7 @@
 ghost use Rattle.std.specs.Prelude.{◌≡◌, ◌≢◌, ◌+◌, ◌<◌, ◌≤◌, ◌^◌, ℕ, min, take, length, slice_index, true, false};
 ghost use Rattle.std.specs.Prelude.{List, [], ◌∷◌, ◌++◌, MatchOption};
 ghost use Rattle.std.specs.List.{AllByRecursion, prefix_len};
-ghost use Rattle.cbpf_code.specs.WordTokens.{single, numeral, is_digit, is_blank, begins_with_digit, decimal_value, tokens_placed};
+ghost use Rattle.cbpf_code.specs.WordTokens.{single, numeral, is_digit, is_blank, begins_with_digit, decimal_value, tokens_at};
 ghost use Rattle.cbpf_code.specs.WordTokens.{tokens_from};
 ghost use Rattle.cbpf_code.specs.NextToken.{IsFound};
 
@@ -51,7 +51,7 @@ pub enum TokenKind {
     Byte(u8),
 }
 
-/// A token with the place of its first byte and the place after its last.
+/// A token with the position of its first byte and the position after its last.
 #[derive(Clone, Copy)]
 pub struct FoundToken {
     pub start: usize,
@@ -59,7 +59,7 @@ pub struct FoundToken {
     pub kind: TokenKind,
 }
 
-/// The place of the first byte from `at` on that is no blank, or the text's length.
+/// The position of the first byte from `at` on that is no blank, or the text's length.
 #[tactic(auto, using(crate::proofs::WordTokenLemmas::token_steps))]
 pub(crate) fn skip_blanks(text: &[u8], at: usize) -> usize
     requires { at ≤ length text.now }
@@ -105,12 +105,12 @@ pub(crate) fn next_token(text: &[u8], at: usize) -> Option<FoundToken>
 /// clauses are laws of the tokens that [`read_words`](crate::read_words) is defined by.
 #[tactic(auto, using(crate::proofs::WordTokenLemmas::laws))]
 pub fn laws_of_tokens()
-    ensures empty { (at : ℕ) → tokens_placed at [] ≡ [] }
+    ensures empty { (at : ℕ) → tokens_at at [] ≡ [] }
     ensures blank { (at b : ℕ) (rest : List ℕ) → is_blank b ≡ true →
-        tokens_placed at (b ∷ rest) ≡ tokens_placed (at + 1) rest }
+        tokens_at at (b ∷ rest) ≡ tokens_at (at + 1) rest }
     ensures single { (at b : ℕ) (rest : List ℕ) → is_blank b ≡ false → is_digit b ≡ false →
-        tokens_placed at (b ∷ rest) ≡ single at b ∷ tokens_placed (at + 1) rest }
+        tokens_at at (b ∷ rest) ≡ single at b ∷ tokens_at (at + 1) rest }
     ensures numeral { (at : ℕ) (digits rest : List ℕ) → digits ≢ [] → AllByRecursion (λ b. is_digit b ≡ true) digits →
         begins_with_digit rest ≡ false →
-        tokens_placed at (digits ++ rest) ≡ numeral at digits ∷ tokens_placed (at + length digits) rest }
+        tokens_at at (digits ++ rest) ≡ numeral at digits ∷ tokens_at (at + length digits) rest }
 {}

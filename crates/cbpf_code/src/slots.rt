@@ -33,8 +33,8 @@ pub(crate) fn path_fault(list: &[Insn]) -> Option<CheckFault>
                 if loads_any(op, insn, unwritten[i]) {
                     return Some(CheckFault::UnwrittenSlot(i as u32));
                 }
-                let left = still_unwritten(unwritten[i], op, insn);
-                propagate(&mut unwritten, i, op, insn, left);
+                let after = still_unwritten(unwritten[i], op, insn);
+                propagate(&mut unwritten, i, op, insn, after);
             }
         }
     }
@@ -63,26 +63,26 @@ fn still_unwritten(mask: u16, op: Op, insn: Insn) -> u16
     }
 }
 
-/// Adds `left` to the masks of the instructions that may follow the one at `i`.
-fn propagate(masks: &mut [u16], i: usize, op: Op, insn: Insn, left: u16)
+/// Adds a mask to the masks of the instructions that may follow the one at `i`.
+fn propagate(masks: &mut [u16], i: usize, op: Op, insn: Insn, mask: u16)
     requires few { i < MAX_INSTRUCTIONS }
-    requires inside { (t : ℕ) → flow.IsAmong (flow.next_places (Some op) insn i) t → t < length masks.old }
-    ensures { AddsToMasks masks.old masks.new left (λ t. flow.IsAmong (flow.next_places (Some op) insn i) t) }
+    requires inside { (t : ℕ) → flow.IsAmong (flow.successors (Some op) insn i) t → t < length masks.old }
+    ensures { AddsToMasks masks.old masks.new mask (λ t. flow.IsAmong (flow.successors (Some op) insn i) t) }
 {
     match op {
         Op::RetK | Op::RetA => (),
-        Op::Ja => add_to_mask(masks, i + 1 + insn.k as usize, left),
+        Op::Ja => add_to_mask(masks, i + 1 + insn.k as usize, mask),
         Op::Jump(_, _) => {
-            add_to_mask(masks, i + 1 + usize::from(insn.jt), left);
-            add_to_mask(masks, i + 1 + usize::from(insn.jf), left);
+            add_to_mask(masks, i + 1 + usize::from(insn.jt), mask);
+            add_to_mask(masks, i + 1 + usize::from(insn.jf), mask);
         }
-        _ => add_to_mask(masks, i + 1, left),
+        _ => add_to_mask(masks, i + 1, mask),
     }
 }
 
-fn add_to_mask(masks: &mut [u16], at: usize, left: u16)
+fn add_to_mask(masks: &mut [u16], at: usize, mask: u16)
     requires { at < length masks.old }
-    ensures { AddsToMasks masks.old masks.new left (λ t. t ≡ at) }
+    ensures { AddsToMasks masks.old masks.new mask (λ t. t ≡ at) }
 {
-    masks[at] |= left;
+    masks[at] |= mask;
 }

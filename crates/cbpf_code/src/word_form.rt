@@ -17,7 +17,7 @@ const LONGEST_LINE: usize = 25;
 /// How many lines a writer gets at once, at most.
 const LINES: usize = 64;
 
-/// Writes a number and the byte after it before the place `end`, and returns where it begins.
+/// Writes a number and the byte after it before the position `end`, and returns where it begins.
 #[inline(always)]
 fn prepend_number(text: &mut [u8], end: usize, number: u64, after: u8) -> usize
     requires room { length (decimal number) < end }
@@ -29,7 +29,7 @@ fn prepend_number(text: &mut [u8], end: usize, number: u64, after: u8) -> usize
     write_digits(number, text, end - 1)
 }
 
-/// Writes an instruction's line before the place `end`, and returns where it begins.
+/// Writes an instruction's line before the position `end`, and returns where it begins.
 // The line is made from its end, where its size isn't known yet.
 #[inline(always)]
 #[tactic(auto, using(crate::proofs::DigitLemmas::few_digits))]

@@ -19,7 +19,7 @@ use std::alloc::Allocator;
 use std::error::Error;
 use std::fmt;
 
-/// Why word text is refused. A place is a byte's, counted from 0.
+/// Why word text is refused. A position is a byte's, counted from 0.
 #[derive(Clone, Copy, PartialEq, Eq, Debug)]
 pub enum WordFault {
     /// Out of memory for the list.
@@ -86,7 +86,7 @@ fn is_end(text: &[u8], at: usize) -> bool
 
 /// A number below `range`, and where it ends.
 fn decimal_at(text: &[u8], at: usize, range: u64) -> Result<(u64, usize), WordFault>
-    requires place { at ≤ length text.now }
+    requires within { at ≤ length text.now }
     requires range { range ≤ 2 ^ 32 }
     ensures below { IfOk result (λ r. (r.0 < range) × (r.1 ≤ length text.now)) }
     ensures step { (due : Due) → limit_of due ≡ Some range →

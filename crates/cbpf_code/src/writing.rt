@@ -153,7 +153,7 @@ impl Line {
         self.at = at;
     }
 
-    /// Puts a number of 64 bits in decimal, which takes at most 20 places.
+    /// Puts a number of 64 bits in decimal, which takes at most 20 digits.
     #[inline(always)]
     pub fn prepend_u64(&mut self, n: u64)
         requires { length self.old + 20 ≤ LINE_SIZE }
@@ -163,7 +163,7 @@ impl Line {
         self.at = write_digits(n, &mut self.bytes, self.at);
     }
 
-    /// Puts a number of 32 bits in decimal, which takes at most 10 places.
+    /// Puts a number of 32 bits in decimal, which takes at most 10 digits.
     #[inline(always)]
     pub fn prepend_u32(&mut self, n: u32)
         requires { length self.old + 10 ≤ LINE_SIZE }

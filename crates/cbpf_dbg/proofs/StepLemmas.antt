@@ -45,10 +45,10 @@ module _ (machine : Machine) (capture : List Record) where
         fewer = omega arith;
       }
 
-  pub nears_more : (old mid new : Cursor) (n m left before between after : ℕ)
-      → Nears machine capture old mid n m before between → Nears machine capture mid new m left between after
-      → Nears machine capture old new n left before after
-  nears_more old mid new n m left before between after h k =
+  pub nears_more : (old mid new : Cursor) (n m ahead before between after : ℕ)
+      → Nears machine capture old mid n m before between → Nears machine capture mid new m ahead between after
+      → Nears machine capture old new n ahead before after
+  nears_more old mid new n m ahead before between after h k =
       record {
         passes = passes_more _ _ _ _ _ _ _ _ h.passes k.passes;
         some = k.some;
@@ -82,10 +82,10 @@ module _ (machine : Machine) (capture : List Record) where
       )
 
   -- past so many packets, which have fewer entries
-  nears_past : (w v : Cursor) (left n before after : ℕ) → Passes machine capture w v before after → w.place.step ≡ 0
-      → v.place ≡ place_at (n + w.place.packet) 0 → n * length machine.list < left → 1 ≤ w.place.packet
-      → (before ≤ after) × (after - before < left) × Nears machine capture w v left (left - (after - before)) before after
-  nears_past w v left n before after h step to few one =
+  nears_past : (w v : Cursor) (ahead n before after : ℕ) → Passes machine capture w v before after → w.place.step ≡ 0
+      → v.place ≡ place_at (n + w.place.packet) 0 → n * length machine.list < ahead → 1 ≤ w.place.packet
+      → (before ≤ after) × (after - before < ahead) × Nears machine capture w v ahead (ahead - (after - before)) before after
+  nears_past w v ahead n before after h step to few one =
       let p : ℕ = w.place.packet in
       let packet : v.place.packet ≡ n + p = ap (λ (q : Place). q.packet) to in
       let es = packets_entries n p h.stands.sound one (omega (arith, packet, h.stands.within)) in
@@ -97,14 +97,14 @@ module _ (machine : Machine) (capture : List Record) where
       let made : after ≡ before + length es.0 =
       omega (arith, fewer, h.spent, step, ap (λ (q : Place). q.step) to) in
       let long : length es.0 ≡ after - before = omega (arith, made) in
-      let more : after - before < left = omega (arith, long, es.2, few) in (
+      let more : after - before < ahead = omega (arith, long, es.2, few) in (
         omega (arith, made),
         more,
         record {
           passes = h;
           some = omega (arith, more);
-          sought = ap (λ xs. slice_get xs (left - 1)) start
-              ∙ slice_get-past es.0 (entries_after machine capture v.place) (after - before) left long more;
+          sought = ap (λ xs. slice_get xs (ahead - 1)) start
+              ∙ slice_get-past es.0 (entries_after machine capture v.place) (after - before) ahead long more;
           fewer = omega (arith, fewer);
         },
       )
@@ -167,17 +167,17 @@ module _ (machine : Machine) (capture : List Record) (w : Cursor) (r : Record) (
         }
 
     -- out of the packet
-    pub nears_out : (left : ℕ) → v.place ≡ record { packet = w.place.packet + 1; step = 0 } → 1 ≤ left
-        → w.place.step + n ≡ length (trace machine r.bytes r.wire) + left
+    pub nears_out : (ahead : ℕ) → v.place ≡ record { packet = w.place.packet + 1; step = 0 } → 1 ≤ ahead
+        → w.place.step + n ≡ length (trace machine r.bytes r.wire) + ahead
         → after + w.place.step ≡ before + length (trace machine r.bytes r.wire) + min w.place.step 1
-        → Nears machine capture w v n left before after
-    nears_out left place some sum turns =
+        → Nears machine capture w v n ahead before after
+    nears_out ahead place some sum turns =
         let long = length (trace machine r.bytes r.wire) in
         let within = step_within machine capture w r h at in
         let all = ahead_long machine capture w r h at w.place.step within in
         let leave = ahead-leave machine capture w.place.packet (length (trace machine r.bytes r.wire)) r
         (packet_from_one machine capture w r h at) at (omega arith) in
-        let i : n - 1 ≡ length (trace machine r.bytes r.wire) - w.place.step + (left - 1) = omega (arith, sum, within, some) in
+        let i : n - 1 ≡ length (trace machine r.bytes r.wire) - w.place.step + (ahead - 1) = omega (arith, sum, within, some) in
         let k : w.place.step + (length (trace machine r.bytes r.wire) - w.place.step) ≡ length (trace machine r.bytes r.wire) =
         omega (arith, within) in
         record {
@@ -188,31 +188,31 @@ module _ (machine : Machine) (capture : List Record) (w : Cursor) (r : Record) (
             spent = rw place (omega (arith, turns, all, ap length leave, within));
           };
           some = some;
-          sought = rw (place, i) (ahead_past (length (trace machine r.bytes r.wire) - w.place.step) w.place.step (left - 1)
+          sought = rw (place, i) (ahead_past (length (trace machine r.bytes r.wire) - w.place.step) w.place.step (ahead - 1)
               (omega (arith, within)) ∙ rw (k, leave) refl);
           fewer = rw place (omega (arith, all, ap length leave, within));
         }
 
 -- into a packet, unless it has begun, and on there
 module _ (machine : Machine) (capture : List Record) (w : Cursor) (r : Record) (h : Stands machine capture w)
-    (at : slice_get capture (w.place.packet - 1) ≡ Some r) (mid v : Cursor) (left ahead before after : ℕ)
+    (at : slice_get capture (w.place.packet - 1) ≡ Some r) (mid v : Cursor) (ahead further before after : ℕ)
     (stands : Stands machine capture v) (origin : v.origin ≡ w.origin) (packet : mid.place.packet ≡ w.place.packet)
-    (step : mid.place.step + min w.place.step 1 ≡ w.place.step + 1) (sum : mid.place.step + ahead ≡ w.place.step + left)
-    (some : 1 ≤ left) where
-  pub steps_to : GoesOnBy mid v ahead before after → Passes machine capture w v before after
-      × (slice_get (entries_after machine capture w.place) (left - 1) ≡ Some (entry_here machine r v))
+    (step : mid.place.step + min w.place.step 1 ≡ w.place.step + 1) (sum : mid.place.step + further ≡ w.place.step + ahead)
+    (some : 1 ≤ ahead) where
+  pub steps_to : GoesOnBy mid v further before after → Passes machine capture w v before after
+      × (slice_get (entries_after machine capture w.place) (ahead - 1) ≡ Some (entry_here machine r v))
   steps_to on =
-      let place : v.place ≡ record { packet = w.place.packet; step = w.place.step + left } =
+      let place : v.place ≡ record { packet = w.place.packet; step = w.place.step + ahead } =
       on.place ∙ rw (packet, sum) refl in (
-        passes_on machine capture w r h at v left before after stands origin place some (omega (arith, on.spent, sum, step)),
-        finds machine capture w r h at v left before after stands origin place some,
+        passes_on machine capture w r h at v ahead before after stands origin place some (omega (arith, on.spent, sum, step)),
+        finds machine capture w r h at v ahead before after stands origin place some,
       )
 
-  pub steps_out : (more : ℕ) → GoesOut (length (trace machine r.bytes r.wire)) mid v ahead more before after
-      → Nears machine capture w v left more before after
+  pub steps_out : (more : ℕ) → GoesOut (length (trace machine r.bytes r.wire)) mid v further more before after
+      → Nears machine capture w v ahead more before after
   steps_out more out =
       let place : v.place ≡ record { packet = w.place.packet + 1; step = 0 } = out.place ∙ rw packet refl in
-      nears_out machine capture w r h at v left before after stands origin more place out.some
+      nears_out machine capture w r h at v ahead before after stands origin more place out.some
       (omega (arith, out.sum, sum)) (omega (arith, out.spent, step))
 
 -- from an entry of a packet on
@@ -269,43 +269,43 @@ module _ (machine : Machine) (capture : List Record) (w : Cursor) (r : Record) (
           },
         )
 
--- the end of so many packets as have fewer entries than are left
-end_of_packets : (p left longest : ℕ) {sum past end : ℕ} → 0 < longest → longest < left → p < past
-    → past ≤ 2 ^ 60 → sum ≡ min (p + (left - 1) / longest) (2 ^ 64 - 1) → end ≡ min sum past
-    → (p < end) × ((end - p) * longest < left)
-end_of_packets p left longest {sum} {past} {end} pos more before few is_sum is_end =
-    let q : ℕ = (left - 1) / longest in
-    let some : 1 ≤ q = le-div 1 (left - 1) longest pos (omega (arith, more)) in
+-- the end of so many packets as have fewer entries than are ahead
+end_of_packets : (p ahead longest : ℕ) {sum past end : ℕ} → 0 < longest → longest < ahead → p < past
+    → past ≤ 2 ^ 60 → sum ≡ min (p + (ahead - 1) / longest) (2 ^ 64 - 1) → end ≡ min sum past
+    → (p < end) × ((end - p) * longest < ahead)
+end_of_packets p ahead longest {sum} {past} {end} pos more before few is_sum is_end =
+    let q : ℕ = (ahead - 1) / longest in
+    let some : 1 ≤ q = le-div 1 (ahead - 1) longest pos (omega (arith, more)) in
     let within : end - p ≤ q = omega (arith, is_sum, is_end) in
     let most = mul-le (end - p) longest q longest within (omega arith) in (
       omega (arith, is_sum, is_end, some, before, few),
-      omega (arith, most, div-mul-le_self (left - 1) longest, more),
+      omega (arith, most, div-mul-le_self (ahead - 1) longest, more),
     )
 
--- a run without a pause goes to the end of so many packets as have fewer entries than are left
-pub record GoesPast {A : Type 0} (l : Loaded A) (old new : Walk) (left before after : ℕ) : Type 0 where
+-- a run without a pause goes to the end of so many packets as have fewer entries than are ahead
+pub record GoesPast {A : Type 0} (l : Loaded A) (old new : Walk) (ahead before after : ℕ) : Type 0 where
   pub early : old.cursor.place.packet < old.end
   pub to : new.cursor.place ≡ place_at old.end 0
   pub rises : before ≤ after
-  pub fewer : after - before < left
-  pub nears : Nears (machine_in l) (records_in l) old.cursor new.cursor left (left - (after - before)) before after
+  pub fewer : after - before < ahead
+  pub nears : Nears (machine_in l) (records_in l) old.cursor new.cursor ahead (ahead - (after - before)) before after
 
-pub goes_past : {A : Type 0} (l : Loaded A) (old new : Walk) (left before after : ℕ) (paused : Bool)
+pub goes_past : {A : Type 0} (l : Loaded A) (old new : Walk) (ahead before after : ℕ) (paused : Bool)
     {past sum : ℕ} → Stands (machine_in l) (records_in l) old.cursor → old.cursor.place.step ≡ 0
-    → length l.program.now < left → old.cursor.place.packet < past → past ≡ length (records_in l) + 1
-    → sum ≡ min (old.cursor.place.packet + (left - 1) / length l.program.now) (2 ^ 64 - 1) → old.end ≡ min sum past
+    → length l.program.now < ahead → old.cursor.place.packet < past → past ≡ length (records_in l) + 1
+    → sum ≡ min (old.cursor.place.packet + (ahead - 1) / length l.program.now) (2 ^ 64 - 1) → old.end ≡ min sum past
     → GoesOn l (λ s. false) old new before after paused → (paused ≡ false → new.cursor.place.packet ≡ new.end)
-    → GoesPast l old new left before after
-goes_past l old new left before after true stands step more early is_past is_sum is_end h none =
+    → GoesPast l old new ahead before after
+goes_past l old new ahead before after true stands step more early is_past is_sum is_end h none =
     let never = (h.entry refl).1 in absurd cc
-goes_past l old new left before after false stands step more early is_past is_sum is_end h none =
+goes_past l old new ahead before after false stands step more early is_past is_sum is_end h none =
     let p : ℕ = old.cursor.place.packet in
     let one : 1 ≤ p = omega (arith, stands.from_one, stands.ordered) in
-    let ends = end_of_packets p left (length l.program.now) (sound_some _ l.sound) more early
+    let ends = end_of_packets p ahead (length l.program.now) (sound_some _ l.sound) more early
     (omega (arith, l.few, is_past)) is_sum is_end in
     let to : new.cursor.place ≡ place_at old.end 0 =
     rw h.same at (at_end _ _ _ h.ends (none refl)) in
     let e : old.end ≡ old.end - p + p = omega (arith, ends.0) in
-    let past = nears_past _ _ old.cursor new.cursor left (old.end - p) before after h.passes step
+    let past = nears_past _ _ old.cursor new.cursor ahead (old.end - p) before after h.passes step
     (to ∙ ap (λ q. place_at q 0) e) ends.1 one in
     record { early = ends.0; to = to; rises = past.0; fewer = past.1; nears = past.2 }

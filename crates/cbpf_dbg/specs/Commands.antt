@@ -58,7 +58,7 @@ where_loaded m act = with_both m.program m.capture (λ list c. act (machine_of l
 abbrev pub stopped : View → Stop → RunReply × View
 stopped m stop = (Stopped stop, record m { place = stop.place })
 
--- the counts up to the capture's end, and back to the start
+-- the counts up to the capture's end, and back to the start, from where it counts then
 abbrev pub finished : View → Machine → List Record → RunReply × View
 finished m machine capture =
     (Finished (counts machine capture m.origin (length capture + 1)), record m { place = start; origin = 1 })
@@ -69,15 +69,15 @@ limited m machine capture next =
 
 -- ---- run
 
--- no stop comes before the limit: the run goes to before the packet after the limit; or where the capture has no such
--- packet, it finishes
+-- No stop comes within the limit. The run goes to step 0 of the first packet beyond the limit. Without a limit, or where the
+-- capture has no such packet, it finishes.
 abbrev pub run_out : View → Machine → List Record → Option ℕ → RunReply × View
 run_out m machine capture None = finished m machine capture
 run_out m machine capture (Some n) =
     if nat_le (m.place.packet + n) (length capture) then limited m machine capture (m.place.packet + n)
     else finished m machine capture
 
--- a stop so many packets after the place's is within the limit; a limit of n covers the place's packet and the n - 1
+-- a stop in a packet so many after the place's is within the limit; a limit of n covers the place's packet and the n - 1
 -- after it
 abbrev pub within_limit : Option ℕ → ℕ → Bool
 within_limit None packets = true
@@ -89,6 +89,7 @@ run_to m machine capture limit [] = run_out m machine capture limit
 run_to m machine capture limit (stop ∷ rest) =
     if within_limit limit (stop.place.packet - m.place.packet) then stopped m stop else run_out m machine capture limit
 
+-- the answer of a run; a limit of 0 packets is refused
 abbrev pub run_in : View → Machine → List Record → Option ℕ → Answer RunReply
 run_in m machine capture (Some zero) = Err fault.ZeroCount
 run_in m machine capture limit = Ok (run_to m machine capture limit (stops_after machine capture m.breakpoints m.place))
@@ -130,7 +131,7 @@ step_in m machine capture (pos (suc n)) = Ok (step_to m machine capture (slice_g
 step_in m machine capture (negsuc n) = back_by m machine capture (n + 1)
 
 -- n entries forward, past the ends of packets; where fewer are ahead it finishes, as a run does; or -n entries back in
--- the packet where n is negative
+-- the packet where n is negative; a count of 0 is refused, and so is a capture without packets
 abbrev pub step : View → ℤ → Answer RunReply
 step m n =
     where_loaded m (λ machine capture. if length capture == 0 then Err fault.NoPackets else step_in m machine capture n)
@@ -199,7 +200,8 @@ pub record Continues (old new : View) (reply : RunReply) : Type 0 where
 
 -- ---- whole runs
 
--- runs without a limit, until one finishes: the counts that the last of them answers, and back to the start
+-- A whole run is runs without a limit until one finishes. It answers the counts of the last of them, goes back to the start,
+-- and counts from there then.
 abbrev pub run_to_end : View → Answer Counts
 run_to_end m = where_loaded m (λ machine capture.
     Ok (counts machine capture m.origin (length capture + 1), record m { place = start; origin = 1 }))
@@ -226,9 +228,11 @@ pub record Found (old new : View) (old_found new_found : List Stop) : Type 0 whe
 
 -- ---- what is loaded and set
 
+-- a program: the breakpoints are gone, and the values stay
 abbrev pub with_program_loaded : View → List Insn → View
 with_program_loaded m list = record m { program = Some list; breakpoints = []; place = start; origin = 1 }
 
+-- a capture: the breakpoints and the values stay
 abbrev pub with_capture_loaded : View → Savefile → View
 with_capture_loaded m c = record m { capture = Some c; place = start; origin = 1 }
 

@@ -136,24 +136,25 @@ pub record Passes (machine : Machine) (capture : List Record) (old new : Cursor)
   pub order : is_before new.place old.place ≡ false
   pub spent : spent_new + owed machine capture new.place ≡ spent_old + owed machine capture old.place
 
--- a cursor goes on, so that the entry that was n entries ahead is `left` entries ahead
-pub record Nears (machine : Machine) (capture : List Record) (old new : Cursor) (n left spent_old spent_new : ℕ) :
+-- a cursor goes on; the n-th entry after the old place is the one with the number `ahead` after the new place
+pub record Nears (machine : Machine) (capture : List Record) (old new : Cursor) (n ahead spent_old spent_new : ℕ) :
     Type 0 where
   pub passes : Passes machine capture old new spent_old spent_new
-  pub some : 1 ≤ left
+  pub some : 1 ≤ ahead
   pub sought : slice_get (entries_after machine capture old.place) (n - 1)
-      ≡ slice_get (entries_after machine capture new.place) (left - 1)
+      ≡ slice_get (entries_after machine capture new.place) (ahead - 1)
   pub fewer : length (entries_after machine capture new.place) ≤ length (entries_after machine capture old.place)
 
--- a cursor goes on in its packet by n entries, by a turn each
+-- a cursor goes on in its packet by n entries, from one of its entries, by a turn each
 pub record GoesOnBy (old new : Cursor) (n spent_old spent_new : ℕ) : Type 0 where
   pub place : new.place ≡ record { packet = old.place.packet; step = old.place.step + n }
   pub spent : spent_new ≡ spent_old + n
 
--- a cursor goes out of its packet, which has so many steps, as fewer than n entries are ahead there; `left` entries are left
-pub record GoesOut (steps : ℕ) (old new : Cursor) (n left spent_old spent_new : ℕ) : Type 0 where
-  pub some : 1 ≤ left
-  pub sum : old.place.step + n ≡ steps + left
+-- From one of its entries a cursor goes out of its packet, which has so many steps, as fewer than n entries are ahead in it. The n-th entry after
+-- the old place is the one with the number `ahead` after the new place.
+pub record GoesOut (steps : ℕ) (old new : Cursor) (n ahead spent_old spent_new : ℕ) : Type 0 where
+  pub some : 1 ≤ ahead
+  pub sum : old.place.step + n ≡ steps + ahead
   pub place : new.place ≡ record { packet = old.place.packet + 1; step = 0 }
   pub spent : spent_new + old.place.step ≡ spent_old + steps + 1
 

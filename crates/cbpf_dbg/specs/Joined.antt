@@ -58,11 +58,11 @@ asks t = is_some (asked t)
 abbrev pub is_hit : Breakpoints → Entry → Bool
 is_hit breakpoints e = carries breakpoints e.state || asks e.turn
 
--- why an entry stops: by an unknown extension, else for the reason given
+-- why an entry stops: its turn asks for an extension without a value, else the reason given
 abbrev pub why_of : Why → Turn → Why
 why_of reason t = option_map_or why.Unknown (asked t) reason
 
--- the stop of an entry, with this reason, or with the unknown extension
+-- the stop of an entry, with this reason, or with the extension without a value
 abbrev pub stop_at : Why → Entry → Stop
 stop_at reason e = record { place = e.place; state = e.state; why = why_of reason e.turn }
 

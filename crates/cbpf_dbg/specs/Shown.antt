@@ -1,6 +1,7 @@
 -- What is shown of a stop: its dump, with the stop's own packet (the kernel's Documentation/networking/filter shows
 -- such a dump for `bpf_dbg`).
-use Rattle.std.specs.Prelude.{ℕ, ◌-◌, ◌≤◌, ◌<◌, List, [], length, slice_get, Option, Some, None}
+use Rattle.std.specs.Prelude.{ℕ, ◌-◌, ◌≤◌, ◌<◌, List, [], length, slice_get, Option, Some}
+use Rattle.std.specs.Option.{option_map_or}
 use Rattle.cbpf_code.specs.declared.insn.Insn.{Insn}
 use Rattle.cbpf_reply.specs.Dump.{shown_in, dump_text}
 use Rattle.pcap_classic.specs.Records.{Record}
@@ -10,13 +11,10 @@ use Rattle.cbpf_reply.specs.declared.reply.RunReply.TheVariants.{Stopped}
 use Rattle.cbpf_reply.specs.declared.reply.Stop.{Stop}
 use Rattle.cbpf_dbg.specs.View.{View}
 
--- the dump, or nothing where the packet isn't there
-abbrev pub text_in : List Insn → Option Record → Stop → List ℕ
-text_in list None stop = []
-text_in list (Some r) stop = dump_text list (shown_in r.bytes r.wire stop)
-
+-- the dump, or nothing where the program, the capture or the packet isn't there
 abbrev pub text_with : Option (List Insn) → Option Savefile → Stop → List ℕ
-text_with (Some list) (Some c) stop = text_in list (slice_get c.records (stop.place.packet - 1)) stop
+text_with (Some list) (Some c) stop = option_map_or (λ (r : Record). dump_text list (shown_in r.bytes r.wire stop))
+    (slice_get c.records (stop.place.packet - 1)) []
 text_with _ _ stop = []
 
 -- the dump of a stop, with the program and the capture of a session

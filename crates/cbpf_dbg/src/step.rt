@@ -57,18 +57,18 @@ fn skip_packets<'a, A: Allocator>(
             .records_at(cursor.place.packet, here.start, past),
         end: past,
     };
-    let mut left = n;
-    'skip: while left > longest && walk.cursor.place.packet < past {
-        // So many packets have fewer entries than are left.
-        let packets = (left - 1) / longest;
+    let mut ahead = n;
+    'skip: while ahead > longest && walk.cursor.place.packet < past {
+        // So many packets have fewer entries than `ahead`, so the one that is sought comes after them.
+        let packets = (ahead - 1) / longest;
         walk.end = walk.cursor.place.packet.saturating_add(packets).min(past);
         let before = meter.spent();
         let _paused = run_records(meter, loaded, &Never, &mut walk, &mut NoTrail);
-        left -= (meter.spent() - before) as u64;
+        ahead -= (meter.spent() - before) as u64;
     }
     *cursor = walk.cursor;
     *records = walk.left;
-    left
+    ahead
 }
 
 /// Goes to the first entry of a packet, whose record is `here`, where the cursor stands before it: how many entries ahead
@@ -89,7 +89,7 @@ fn enter_packet<T: Trail, A: Allocator>(
     ensures packet { cursor.new.place.packet ≡ cursor.old.place.packet }
     ensures origin { cursor.new.origin ≡ cursor.old.origin }
     ensures step { cursor.new.place.step + min cursor.old.place.step 1 ≡ cursor.old.place.step + 1 }
-    ensures left { cursor.new.place.step + result ≡ cursor.old.place.step + n }
+    ensures ahead { cursor.new.place.step + result ≡ cursor.old.place.step + n }
 {
     if cursor.place.step > 0 {
         return n;
@@ -100,7 +100,7 @@ fn enter_packet<T: Trail, A: Allocator>(
 }
 
 /// Goes on from an entry of a packet, whose record is `here`, by `n` entries: `None`. Or goes out of the packet: how many
-/// entries are left then.
+/// entries ahead the one that is sought is then.
 fn step_in_packet<T: Trail, A: Allocator>(
     meter: &mut Meter,
     loaded: &Loaded<'_, A>,
@@ -118,8 +118,8 @@ fn step_in_packet<T: Trail, A: Allocator>(
     ensures origin { cursor.new.origin ≡ cursor.old.origin }
     ensures keeps { result ≡ None → KeepsIn (λ xs. T.stands_for trail.new xs) loaded.now cursor.new.place }
     ensures on { result ≡ None → GoesOnBy cursor.old cursor.new n meter.old meter.new }
-    ensures out { IfSome result (λ left. GoesOut (length (trace (machine_in loaded.now) here.now.bytes.now here.now.wire))
-        cursor.old cursor.new n left meter.old meter.new) }
+    ensures out { IfSome result (λ ahead. GoesOut (length (trace (machine_in loaded.now) here.now.bytes.now here.now.wire))
+        cursor.old cursor.new n ahead meter.old meter.new) }
 {
     let task = Task {
         program: loaded.program,
@@ -164,24 +164,24 @@ pub(crate) fn step_on<T: Trail, A: Allocator>(
         (step_from (machine_in loaded.now) (records_in loaded.now) n) cursor.old }
 {
     let count = loaded.capture.count();
-    let mut left = n;
+    let mut ahead = n;
     let mut records = loaded
         .capture
         .records_at(cursor.place.packet, cursor.start, count + 1);
     if cursor.place.step == 0 {
-        left = skip_packets(meter, loaded, &mut records, cursor, left);
+        ahead = skip_packets(meter, loaded, &mut records, cursor, ahead);
         trail.clear();
     }
     'go: while let Some(here) = records.first() {
-        let ahead = enter_packet(loaded, &here, cursor, trail, left);
-        match step_in_packet(meter, loaded, &here, cursor, trail, ahead) {
+        let further = enter_packet(loaded, &here, cursor, trail, ahead);
+        match step_in_packet(meter, loaded, &here, cursor, trail, further) {
             None => {
                 cursor.start = here.start;
                 return RunReply::Stopped(stop_at(loaded.program, loaded.values, cursor, Why::Step));
             }
             Some(more) => {
                 records.pass(&here);
-                left = skip_packets(meter, loaded, &mut records, cursor, more);
+                ahead = skip_packets(meter, loaded, &mut records, cursor, more);
                 trail.clear();
             }
         }

@@ -1,4 +1,4 @@
--- Lists by place.
+-- Lists by index.
 use Rattle.std.proofs.Common.{◌≡◌, ℕ, zero, suc, ◌+◌, ◌<◌, List, [], ◌∷◌, ◌++◌, length, get_or, take, drop, arith, ap}
 use Rattle.std.proofs.Common.{refl, add-one}
 use Rattle.std.specs.Prelude.{Some, slice_get}

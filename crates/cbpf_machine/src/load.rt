@@ -16,7 +16,7 @@ pub struct Packet<'a> {
     pub wire: u32,
 }
 
-/// The number at a place of the captured bytes, in network byte order; `None` where it isn't inside.
+/// The number at an offset of the captured bytes, in network byte order; `None` where it isn't inside.
 #[inline(always)]
 pub(crate) fn packet_number(bytes: &[u8], at: u32, size: Size) -> Option<u32>
     ensures { result ≡ packet_number bytes.now at (width size) }

@@ -7,13 +7,13 @@ ghost use Rattle.cbpf_machine.specs.Values as spec;
 use cbpf_code::{Ext, ext_offset};
 use std::marker::Model;
 
-/// One place for each offset below 64 that 4 divides.
-const PLACES: usize = 16;
+/// One for each offset below 64 that 4 divides.
+const VALUE_COUNT: usize = 16;
 
 /// Values for extensions: a load of an extension that has one loads it into A, and the packet goes on.
 #[derive(Clone, Copy, Debug, PartialEq, Eq)]
 pub struct Values {
-    places: [Option<u32>; PLACES],
+    values: [Option<u32>; VALUE_COUNT],
 }
 
 impl Model for Values {
@@ -21,16 +21,16 @@ impl Model for Values {
 
     ghost Value = { Values };
 
-    ghost view = { λ v. v.places };
+    ghost view = { λ v. v.values };
 
-    ghost inverse = { λ list. record { places = list } };
+    ghost inverse = { λ list. record { values = list } };
 }
 
 /// Where the value of an extension is kept.
 #[inline(always)]
 fn value_index(e: Ext) -> usize
     ensures value { result ≡ spec.value_index e }
-    ensures within { result < PLACES }
+    ensures within { result < VALUE_COUNT }
 {
     ext_offset(e) as usize / 4
 }
@@ -49,7 +49,7 @@ impl Values {
         ensures none { (e : AnExt) → spec.value_of result e ≡ None }
     {
         Values {
-            places: [None; PLACES],
+            values: [None; VALUE_COUNT],
         }
     }
 
@@ -58,7 +58,7 @@ impl Values {
     pub fn value_of(&self, e: Ext) -> Option<u32>
         ensures { result ≡ spec.value_of self.now e }
     {
-        self.places[value_index(e)]
+        self.values[value_index(e)]
     }
 
     /// Gives an extension a value. `Nla`, `NlaN` and `PayOff` are found by a search in the packet, and
@@ -75,7 +75,7 @@ impl Values {
         if !takes_value(e) {
             return false;
         }
-        self.places[value_index(e)] = Some(n);
+        self.values[value_index(e)] = Some(n);
         true
     }
 }

@@ -30,7 +30,7 @@ pub fn run_packet<A: Allocator>(
         ≡ meter.old + length (spec.trace (machine_of p.now values.now) packet.entry.bytes.now packet.entry.wire) }
     ensures few { meter.new ≤ meter.old + length p.now }
 
-    // The definition's trace is the whole run: it ends by itself, and its program counters rise.
+    // The definition's trace is a run to its end: it ends by itself, and its program counters rise.
     ensures whole { spec.IsRun (machine_of p.now values.now) packet.entry.bytes.now packet.entry.wire
         (spec.trace (machine_of p.now values.now) packet.entry.bytes.now packet.entry.wire) }
 {

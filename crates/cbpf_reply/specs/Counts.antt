@@ -9,6 +9,7 @@ use Rattle.cbpf_reply.specs.declared.reply.Place.{Place}
 abbrev pub place_after : List ℕ → Place → List ℕ
 place_after before p = with_numbers before p.packet (codes " ") p.step (codes "\n")
 
+-- a place on a line of its own
 unfoldable pub place_text : Place → List ℕ
 place_text p = place_after [] p
 
@@ -20,12 +21,9 @@ at_text p = place_after (codes "at ") p
 abbrev pub unknown_text : ℕ → List ℕ
 unknown_text n = if n == 0 then [] else concat (codes " unknown:" ∷ decimal n ∷ [])
 
-unfoldable pub known_text : ℕ → ℕ → List ℕ
-known_text passes fails = with_numbers (codes "bpf passes:") passes (codes " fails:") fails []
-
 -- how many packets passed and failed, and how many asked for an extension without a value
 unfoldable pub counts_text : Counts → List ℕ
-counts_text n = known_text n.passes n.fails ++ unknown_text n.unknown
+counts_text n = with_numbers (codes "bpf passes:") n.passes (codes " fails:") n.fails [] ++ unknown_text n.unknown
 
 -- the reply of a run that came to its limit: the counts, and the next packet
 abbrev pub limit_text : Counts → ℕ → List ℕ

@@ -42,7 +42,7 @@ pub fn write_went_to<W: Write>(w: &mut W, place: Place) -> Result<(), WriteFault
 
 /// Puts how many packets passed and failed, and how many asked for an extension without a value.
 #[inline(always)]
-#[tactic(auto, unfolding(crate::specs::Counts::counts_text, crate::specs::Counts::known_text))]
+#[tactic(auto, unfolding(crate::specs::Counts::counts_text))]
 fn prepend_counts(line: &mut Line, counts: Counts)
     requires room { length line.old + 88 ≤ LINE_SIZE }
     ensures { line.new ≡ spec.counts_text counts ++ line.old }

@@ -11,10 +11,7 @@ use Rattle.cbpf_syntax.specs.declared.piece.Piece.{Piece}
 use Rattle.cbpf_syntax.specs.declared.token.Token.{Token}
 use Rattle.cbpf_syntax.specs.declared.token.Kind.{Kind}
 use Rattle.cbpf_syntax.specs.Pieces.{IsNext, IsPieceAt, IsCut, is_line_blank}
-use Rattle.cbpf_syntax.specs.declared.token.LexFault.{LexFault}
-use Rattle.cbpf_syntax.specs.declared.token.LexFault.TheVariants.{Memory, At}
-use Rattle.cbpf_syntax.specs.Tokens.{LexesTo, IsLexFault, tokens_of, token_of, is_good}
-use Rattle.cbpf_syntax.specs.TokenReading.{IsNextFault}
+use Rattle.cbpf_syntax.specs.Tokens.{LexesTo, tokens_of, token_of, is_good}
 use Rattle.cbpf_syntax.specs.declared.piece.PieceKind.TheVariants.{Blanks, Comment, TokenOf, Bad}
 
 IsCut-snoc : (text : List ℕ) (at : ℕ) (ps : List Piece) (to : ℕ) (p : Piece) → IsCut text at ps to
@@ -110,9 +107,3 @@ piece_more text from at p more next good other ts lexed =
     no_token Comment at to other = refl
     no_token (TokenOf k) at to other = absurd (other k refl)
     no_token (Bad f) at to other = refl
-
--- the fault after the tokens that were taken is the text's
-pub text_fault : (text : List ℕ) (at : ℕ) (ts : List Token) (fault : LexFault) → LexesTo text at ts
-    → IsNextFault text at fault → IsLexFault text fault
-text_fault text at ts Memory lexed next = tt
-text_fault text at ts (At bad line) lexed next = next ts lexed

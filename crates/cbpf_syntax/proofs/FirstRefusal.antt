@@ -8,7 +8,7 @@ use Rattle.cbpf_syntax.specs.Lexemes.{Lexeme}
 use Rattle.cbpf_syntax.specs.Items.{Item, Items, BeginsItems}
 use Rattle.cbpf_syntax.specs.Refusals.ParseFault.{Misplaced, LargeNegative, Unfinished}
 use Rattle.cbpf_syntax.specs.Refusals.{ParseFault, IsLargeNegative, ItemsStuckAt, IsRefusedAt, IsFirstRefusal}
-use Rattle.cbpf_syntax.specs.Refusals.{IsAccepted, IsPlaceOf, IsFirstRefusalAtPlace}
+use Rattle.cbpf_syntax.specs.Refusals.{IsAccepted, IsPositionOf, IsFirstRefusalAtPosition}
 use Rattle.cbpf_syntax.specs.Ahead.{IsFirstLarge}
 use Rattle.cbpf_syntax.specs.Laws.{OneFirstRefusal, EachParsed}
 use Rattle.cbpf_syntax.proofs.Cuts.{some-same}
@@ -109,27 +109,27 @@ each_parsed ts = elim (reach ts (length ts) 0 [] (omega arith) refl) [
 
 -- a list of no tokens is items, so each refusal has a token that shows it
 pub each_shown : (ts : List Lexeme) (f : ParseFault) (p : ℕ) → IsFirstRefusal ts f p
-    → (at : ℕ) × IsFirstRefusalAtPlace ts f at
+    → (at : ℕ) × IsFirstRefusalAtPosition ts f at
 each_shown [] f p r = absurd (items_accepted [] [] refl (λ k h. omega (arith, large_within [] k h)) f p r.refused)
 each_shown (t ∷ ts) f p r =
     let some = slice_get-get_or (t ∷ ts) (min p (length (t ∷ ts) - 1)) t (omega arith) in
     (_, record { index = p; first = r; shown = ap (option_map (λ (u : Lexeme). u.at)) some })
 
-pub one_shown : (ts : List Lexeme) (f g : ParseFault) (m n : ℕ) → IsFirstRefusalAtPlace ts f m
-    → IsFirstRefusalAtPlace ts g n
+pub one_shown : (ts : List Lexeme) (f g : ParseFault) (m n : ℕ) → IsFirstRefusalAtPosition ts f m
+    → IsFirstRefusalAtPosition ts g n
     → (f ≡ g) × (m ≡ n)
 one_shown ts f g m n a b =
     let e = one_refusal ts f g a.index b.index a.first b.first in
-    (e.0, some-same m n (sym (subst (λ p. IsPlaceOf ts (min p (length ts - 1)) m) e.1 a.shown) ∙ b.shown))
+    (e.0, some-same m n (sym (subst (λ p. IsPositionOf ts (min p (length ts - 1)) m) e.1 a.shown) ∙ b.shown))
 
 -- a refusal that is shown by the token at its index
 shown_there : (ts : List Lexeme) (f : ParseFault) (p at : ℕ) → p < length ts → IsFirstRefusal ts f p
-    → IsPlaceOf ts p at → IsFirstRefusalAtPlace ts f at
+    → IsPositionOf ts p at → IsFirstRefusalAtPosition ts f at
 shown_there ts f p at l r place =
     let e : min p (length ts - 1) ≡ p = omega arith in record { index = p; first = r; shown = rw e place }
 
 pub refused_large : (us vs : List Lexeme) (at : ℕ) → ItemsStuckAt (us ++ vs) (length us) → IsFirstLarge us (Some at)
-    → IsFirstRefusalAtPlace (us ++ vs) LargeNegative at
+    → IsFirstRefusalAtPosition (us ++ vs) LargeNegative at
 refused_large us vs at stuck h =
     let l = large_within us h.0 h.1 in
     let here = large_left us vs h.0 l ∙ h.1 in
@@ -139,12 +139,12 @@ refused_large us vs at stuck h =
 
 -- the same where the tokens are items
 pub large_refused : (ts : List Lexeme) (items : List Item) (at : ℕ) → Items ts items → IsFirstLarge ts (Some at)
-    → IsFirstRefusalAtPlace ts LargeNegative at
+    → IsFirstRefusalAtPosition ts LargeNegative at
 large_refused ts items at p h =
     shown_there ts LargeNegative h.0 at (large_within ts h.0 h.1) (items_large ts items h.0 p h.1 h.2) h.3
 
-pub refused_misplaced : (us vs : List Lexeme) (at : ℕ) → IsPlaceOf vs 0 at → ItemsStuckAt (us ++ vs) (length us)
-    → IsFirstLarge us None → IsFirstRefusalAtPlace (us ++ vs) Misplaced at
+pub refused_misplaced : (us vs : List Lexeme) (at : ℕ) → IsPositionOf vs 0 at → ItemsStuckAt (us ++ vs) (length us)
+    → IsFirstLarge us None → IsFirstRefusalAtPosition (us ++ vs) Misplaced at
 refused_misplaced us [] at place stuck none = cc
 refused_misplaced us (v ∷ vs) at place stuck none =
     let l : length us < length (us ++ (v ∷ vs)) = omega (arith, length-append us (v ∷ vs)) in
@@ -159,8 +159,8 @@ stuck_some [] i stuck = absurd (stuck.end (omega (arith, stuck.within)) [] refl)
 stuck_some (t ∷ ts) i stuck = omega arith
 
 pub refused_unfinished : (us vs : List Lexeme) (at : ℕ) → vs ≡ []
-    → (0 < length us → IsPlaceOf us (length us - 1) at) → ItemsStuckAt (us ++ vs) (length us) → IsFirstLarge us None
-    → IsFirstRefusalAtPlace (us ++ vs) Unfinished at
+    → (0 < length us → IsPositionOf us (length us - 1) at) → ItemsStuckAt (us ++ vs) (length us) → IsFirstLarge us None
+    → IsFirstRefusalAtPosition (us ++ vs) Unfinished at
 refused_unfinished us (v ∷ vs) at e place stuck none = cc
 refused_unfinished us [] at e place stuck none =
     let last : min (length us) (length us - 1) ≡ length us - 1 = omega arith in

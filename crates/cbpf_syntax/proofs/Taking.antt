@@ -27,7 +27,7 @@ use Rattle.cbpf_syntax.proofs.Readings.{classes_of, fits_so_far}
 use Rattle.cbpf_syntax.proofs.Refused.{next_some, large_within, large_number}
 use Rattle.cbpf_syntax.specs.Views.{lexeme_of, row_of}
 use Rattle.cbpf_syntax.specs.Steps.{Goes, IsNextItem, Stuck, starts_with_label}
-use Rattle.cbpf_syntax.specs.Refusals.{symbol_at, is_large_at, IsLargeNegative, IsPlaceOf}
+use Rattle.cbpf_syntax.specs.Refusals.{symbol_at, is_large_at, IsLargeNegative, IsPositionOf}
 use Rattle.std.proofs.lemmas.List.{append_cancel_left}
 use Rattle.cbpf_syntax.specs.Ahead.{Ahead, HasTaken, MayRemain, IsStepOf, step_len, StartsWithWord, IsFirstLarge}
 use Rattle.cbpf_syntax.proofs.Ahead.{next_more, stuck_more, label_more}
@@ -115,10 +115,10 @@ module _ (us vs : List Lexeme) where
   symbol_right : (k : ℕ) → symbol_at (us ++ vs) (length us + k) ≡ symbol_at vs k
   symbol_right k = ap (option_map (λ (t : Lexeme). t.symbol)) (get_right k)
 
-  pub place_left : (k at : ℕ) → k < length us → IsPlaceOf us k at → IsPlaceOf (us ++ vs) k at
+  pub place_left : (k at : ℕ) → k < length us → IsPositionOf us k at → IsPositionOf (us ++ vs) k at
   place_left k at l p = ap (option_map (λ (t : Lexeme). t.at)) (get_left k l) ∙ p
 
-  pub place_right : (k at : ℕ) → IsPlaceOf vs k at → IsPlaceOf (us ++ vs) (length us + k) at
+  pub place_right : (k at : ℕ) → IsPositionOf vs k at → IsPositionOf (us ++ vs) (length us + k) at
   place_right k at p = ap (option_map (λ (t : Lexeme). t.at)) (get_right k) ∙ p
 
   pub large_left : (k : ℕ) → k < length us → is_large_at (us ++ vs) k ≡ is_large_at us k
@@ -178,7 +178,7 @@ get_mapped : (ts : List declared_lexeme.Lexeme) (i : ℕ) (d : declared_lexeme.L
 get_mapped ts i d l = slice_get-map lexeme_of ts i ∙ ap (option_map lexeme_of) (slice_get-get_or ts i d l)
 
 pub place_mapped : (ts : List declared_lexeme.Lexeme) (i : ℕ) (d : declared_lexeme.Lexeme) → i < length ts
-    → IsPlaceOf (map lexeme_of ts) i (get_or ts i d).at
+    → IsPositionOf (map lexeme_of ts) i (get_or ts i d).at
 place_mapped ts i d l = ap (option_map (λ (t : Lexeme). t.at)) (get_mapped ts i d l)
 
 -- what begins an item, and has a token, begins with a word
@@ -238,16 +238,16 @@ module _ (taken : List Lexeme) (window : List declared_lexeme.Lexeme) (n : ℕ) 
       large_on taken (map lexeme_of (take n window)) old new (taken_word n window w) h known found
 
   pub taken_last : (d : declared_lexeme.Lexeme) → 0 < n
-      → IsPlaceOf (taken ++ map lexeme_of (take n window)) (length (taken ++ map lexeme_of (take n window)) - 1)
+      → IsPositionOf (taken ++ map lexeme_of (take n window)) (length (taken ++ map lexeme_of (take n window)) - 1)
       (get_or (take n window) (n - 1) d).at
   taken_last d some =
       let i : length taken + (n - 1) ≡ length (taken ++ map lexeme_of (take n window)) - 1 =
       omega (arith, some, length-append taken (map lexeme_of (take n window)), taken_size) in
-      subst (λ k. IsPlaceOf (taken ++ map lexeme_of (take n window)) k (get_or (take n window) (n - 1) d).at) i
+      subst (λ k. IsPositionOf (taken ++ map lexeme_of (take n window)) k (get_or (take n window) (n - 1) d).at) i
       (place_right taken (map lexeme_of (take n window)) (n - 1) _
       (place_mapped (take n window) (n - 1) d (omega (arith, some, length-take-le n window within))))
 
   pub taken_before : (d : declared_lexeme.Lexeme) → 0 < n
-      → IsPlaceOf (taken ++ map lexeme_of (take n window)) (length (taken ++ map lexeme_of (take n window)) - 1)
+      → IsPositionOf (taken ++ map lexeme_of (take n window)) (length (taken ++ map lexeme_of (take n window)) - 1)
       (get_or window (n - 1) d).at
   taken_before d some = rw (get_or-take n window (n - 1) d (omega (arith, some))) at (taken_last d some)

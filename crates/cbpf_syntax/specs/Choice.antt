@@ -1,5 +1,5 @@
--- Which of the forms of `Table` (of the kernel's Documentation/networking/filter, and this project's own) the tokens
--- at the front of a list go along farthest. No public clause names it.
+-- Which of the forms of `Table` the tokens at the front of a list go along farthest. The forms are those of the kernel's
+-- Documentation/networking/filter and this project's own. No public clause names it.
 use Rattle.std.specs.Prelude.{◌≡◌, ◌≢◌, ◌≤◌, ℕ, zero, suc, Bool, false, List, [], ◌∷◌, length, Contains}
 use Rattle.std.specs.List.{common_prefix_len}
 use Rattle.cbpf_syntax.specs.declared.choice.Match.{Match}
@@ -14,8 +14,8 @@ use Rattle.cbpf_syntax.specs.Views.{row_of}
 abbrev pub common : List Class → List Lexeme → ℕ
 common cs ts = common_prefix_len (λ c (t : Lexeme). fits c t.symbol) cs ts
 
--- The token at an index is a comma. Where tokens fill a form of a mnemonic whole, a longer form that they fit as far goes on
--- with a comma. So a form that is filled whole is the best where no comma follows.
+-- The token at an index is a comma. Where the tokens fill a form of a mnemonic whole, and a longer form fits them too as far
+-- as that, the longer one goes on with a comma. So a form that is filled whole is the best where no comma follows.
 abbrev pub is_comma_at : List Lexeme → ℕ → Bool
 is_comma_at [] i = false
 is_comma_at (t ∷ ts) zero = fits (the_mark 44) t.symbol

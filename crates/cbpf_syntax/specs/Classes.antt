@@ -1,8 +1,8 @@
--- The classes of tokens of which the forms of `Table` are made (of the kernel's Documentation/networking/filter, and
--- this project's own).
+-- The classes of tokens of which the forms of `Table` are made. These are the kernel's (Documentation/networking/filter) and
+-- this project's own.
 use Rattle.std.specs.Prelude.{ℕ, List}
 
--- what may stand at a place of a form
+-- a class of tokens; a form is a list of classes
 pub data Class : Type 0 where
   -- the word of these bytes
   the_word : List ℕ → Class

@@ -1,5 +1,5 @@
--- The items of a token list, instructions with their labels, as the forms of `Table` (of the kernel's
--- Documentation/networking/filter, and this project's own) make them, and what begins a list of items.
+-- The items of a token list, which are instructions with their labels, as the forms of `Table` make them, and what begins a
+-- list of items. The forms are those of the kernel's Documentation/networking/filter and this project's own.
 use Rattle.std.specs.Prelude.{◌≡◌, true, List, [], ◌∷◌, ◌++◌, Contains}
 use Rattle.cbpf_syntax.specs.Lexemes.{Lexeme}
 use Rattle.cbpf_syntax.specs.Fits.{fits, fits_all}

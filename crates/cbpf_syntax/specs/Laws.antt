@@ -1,5 +1,5 @@
--- Laws of the forms of `Table` (of the kernel's Documentation/networking/filter, and this project's own): a token list
--- is one list of items and has no refusal, or has one first refusal.
+-- Laws of the forms of `Table`: a token list is one list of items and has no refusal, or has one first refusal. The forms
+-- are those of the kernel's Documentation/networking/filter and this project's own.
 use Rattle.std.specs.Prelude.{◌≡◌, ◌⊎◌, ℕ, List}
 use Rattle.cbpf_syntax.specs.Lexemes.{Lexeme}
 use Rattle.cbpf_syntax.specs.Items.{Item, Items}

@@ -1,6 +1,6 @@
--- Tokens as the grammar of the assembler sees them: words by their bytes, numbers by their values, marks (of the
--- kernel's Documentation/networking/filter, and this project's own). A lexeme is a token by what it says, with its
--- place; the comments of the grammar's files call it a token.
+-- Tokens as the grammar of the assembler sees them: words by their bytes, numbers by their values, and marks. A lexeme is a
+-- token by what it says, with its position. The comments of the grammar's files call it a token. The kernel's
+-- Documentation/networking/filter shows such words, numbers and marks; some are this project's own.
 use Rattle.std.specs.Prelude.{◌≡◌, ℕ, List, length, map, slice_range}
 use Rattle.cbpf_syntax.specs.declared.token.Kind.{Kind}
 use Rattle.cbpf_syntax.specs.declared.token.Kind.TheVariants as kinds
@@ -12,7 +12,7 @@ pub data Symbol : Type 0 where
   number : ℕ → Symbol
   mark : ℕ → Symbol
 
--- a symbol with the place in the text at which it begins
+-- a symbol with the position in the text at which it begins
 pub record Lexeme : Type 0 where
   pub symbol : Symbol
   pub at : ℕ
@@ -30,7 +30,7 @@ token_lexeme text token =
 abbrev pub lexemes_of : List ℕ → List Token → List Lexeme
 lexemes_of text tokens = map (token_lexeme text) tokens
 
--- the text up to a place has these lexemes
+-- the text up to a position has these lexemes
 pub record AreLexemesTo (text : List ℕ) (to : ℕ) (lexemes : List Lexeme) : Type 0 where
   pub tokens : List Token
   pub lexed : LexesTo text to tokens

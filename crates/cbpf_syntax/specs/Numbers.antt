@@ -4,7 +4,7 @@ use Rattle.std.specs.Prelude.{◌≡◌, ◌^◌, min, ℕ, ◌+◌, ◌-◌, �
 use Rattle.std.specs.Prelude.{if◌then◌else◌, Option, Some, None}
 use Rattle.cbpf_code.specs.WordTokens.{is_digit}
 
--- the value of a digit of either case, and 16 for any other byte
+-- the value of a hexadecimal digit of either case, and 16 for any other byte
 unfoldable pub digit_value : ℕ → ℕ
 digit_value b =
     if is_digit b then b - 48
@@ -18,7 +18,7 @@ digits_value base high [] = Some high
 digits_value base high (b ∷ bs) =
     if nat_lt (digit_value b) base then digits_value base (high * base + digit_value b) bs else None
 
--- the same of at least one digit
+-- the number that these bytes spell by themselves, if there is one at least and each is a digit of the base
 abbrev pub some_digits_value : ℕ → List ℕ → Option ℕ
 some_digits_value base [] = None
 some_digits_value base (b ∷ bs) = digits_value base 0 (b ∷ bs)

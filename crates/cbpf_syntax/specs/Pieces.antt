@@ -1,4 +1,4 @@
--- How a source text is cut into pieces: blanks, comments, tokens and bad pieces, each the longest at its place. The
+-- How a source text is cut into pieces: blanks, comments, tokens and bad pieces, each the longest at its position. The
 -- kernel's Documentation/networking/filter shows words, numbers, marks and comments by example; these rules are this
 -- project's own.
 use Rattle.std.specs.Prelude.{◌≡◌, ℕ, suc, ◌+◌, ◌-◌, ◌<◌, ◌≤◌, Bool, true, false, not, ◌&&◌, ◌||◌, List, [], ◌∷◌}
@@ -82,11 +82,11 @@ pub record IsNext (fresh : Bool) (text : List ℕ) (piece : Piece) : Type 0 wher
   pub kind : piece_kind fresh (take piece.size text) ≡ Some piece.kind
   pub longest : (n : ℕ) → piece.size < n → n ≤ length text → piece_kind fresh (take n text) ≡ None
 
--- the piece is the next of the text at a place
+-- the piece is the next of the text at a position
 abbrev pub IsPieceAt : List ℕ → ℕ → Piece → Type 0
 IsPieceAt text at piece = IsNext (is_line_blank (take at text)) (drop at text) piece
 
--- the text from one place to another is cut into the pieces
+-- the text from one position to another is cut into the pieces
 abbrev pub IsCut : List ℕ → ℕ → List Piece → ℕ → Type 0
 IsCut text at [] to = at ≡ to
 IsCut text at (piece ∷ pieces) to = IsPieceAt text at piece × IsCut text (at + piece.size) pieces to

@@ -66,16 +66,16 @@ pub record IsFirstRefusal (ts : List Lexeme) (fault : ParseFault) (i : ℕ) : Ty
   pub refused : IsRefusedAt ts fault i
   pub first : (other : ParseFault) (j : ℕ) → IsRefusedAt ts other j → i ≤ j
 
--- the token with the index stands at this place in the text
-abbrev pub IsPlaceOf : List Lexeme → ℕ → ℕ → Type 0
-IsPlaceOf ts i at = option_map (λ (t : Lexeme). t.at) (slice_get ts i) ≡ Some at
+-- the token with the index stands at this position in the text
+abbrev pub IsPositionOf : List Lexeme → ℕ → ℕ → Type 0
+IsPositionOf ts i at = option_map (λ (t : Lexeme). t.at) (slice_get ts i) ≡ Some at
 
--- The first refusal of tokens, by the place in the text of the token that shows it. That is the token at the index of
+-- The first refusal of tokens, by the position in the text of the token that shows it. That is the token at the index of
 -- the refusal; where that index is their end, it is the last one.
-pub record IsFirstRefusalAtPlace (ts : List Lexeme) (fault : ParseFault) (at : ℕ) : Type 0 where
+pub record IsFirstRefusalAtPosition (ts : List Lexeme) (fault : ParseFault) (at : ℕ) : Type 0 where
   pub index : ℕ
   pub first : IsFirstRefusal ts fault index
-  pub shown : IsPlaceOf ts (min index (length ts - 1)) at
+  pub shown : IsPositionOf ts (min index (length ts - 1)) at
 
 -- a refusal as it is reported
 abbrev pub reported_at : ParseFault → ℕ → SyntaxFault

@@ -1,5 +1,5 @@
--- The item at the front of a token list, and how far the tokens go where there is none, by the forms of `Table` (of the
--- kernel's Documentation/networking/filter, and this project's own).
+-- The item at the front of a token list, and how far the tokens go where there is none, by the forms of `Table`. These are
+-- the kernel's (Documentation/networking/filter) and this project's own.
 use Rattle.std.specs.Prelude.{◌≤◌, ◌<◌, ℕ, suc, Bool, false, ◌&&◌, List, [], ◌∷◌, length, take}
 use Rattle.std.specs.Prelude.{Result, Ok, Err}
 use Rattle.cbpf_syntax.specs.declared.item.Row as declared_row

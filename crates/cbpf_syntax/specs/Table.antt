@@ -25,8 +25,9 @@ pub record Row : Type 0 where
   pub mnemonic : List ℕ
   pub operand : List Class
   pub op : Op
-  -- The literal goes to k. `Constant`: there is no target. `Goto`: the target goes to k. `Branch`: the first target
-  -- goes to jt, and a second one to jf. `Swapped`: the target goes to jf, as the jump goes where the comparison fails.
+  -- `Constant`: the literal goes to k, and there is no target. `Goto`: the target's offset goes to k, and there is no literal.
+  -- `Branch`: the literal goes to k, the first target's offset to jt, and a second one's to jf. `Swapped`: the literal goes to
+  -- k, and the target's offset to jf, as the jump goes where the comparison fails.
   pub fields : Fields
 
 -- the classes of the mnemonic and of its operand

@@ -1,4 +1,4 @@
--- The tokens of a source text with their places, and the first piece that is bad: this project's own rules, as the
+-- The tokens of a source text with their positions, and the first piece that is bad: this project's own rules, as the
 -- kernel's Documentation/networking/filter has no faults.
 use Rattle.std.specs.Prelude.{◌≡◌, ℕ, ◌+◌, Bool, true, false, List, [], ◌∷◌, ◌++◌, ◌≤◌, length, take, count_by, ◌==◌}
 use Rattle.std.specs.List.{list_all}
@@ -24,12 +24,12 @@ token_of Comment at to = []
 token_of (TokenOf kind) at to = record { kind = kind; start = at; end = to } ∷ []
 token_of (Bad fault) at to = []
 
--- the tokens of pieces that begin at a place
+-- the tokens of pieces that begin at a position
 abbrev pub tokens_of : ℕ → List Piece → List Token
 tokens_of at [] = []
 tokens_of at (piece ∷ pieces) = token_of piece.kind at (at + piece.size) ++ tokens_of (at + piece.size) pieces
 
--- the text up to a place is cut into pieces that are not bad, and these are its tokens
+-- the text up to a position is cut into pieces that are not bad, and these are its tokens
 pub record LexesTo (text : List ℕ) (to : ℕ) (tokens : List Token) : Type 0 where
   pub pieces : List Piece
   pub cut : IsCut text 0 pieces to
@@ -40,11 +40,11 @@ pub record LexesTo (text : List ℕ) (to : ℕ) (tokens : List Token) : Type 0 w
 abbrev pub Lexes : List ℕ → List Token → Type 0
 Lexes text tokens = LexesTo text (length text) tokens
 
--- the token's place is one of the text
+-- the token's bytes lie within the text, and it doesn't end before it starts
 abbrev pub IsSpanOf : List ℕ → Token → Type 0
 IsSpanOf text token = (token.start ≤ token.end) × (token.end ≤ length text)
 
--- the line of a place, counted from 1
+-- the line of a position, counted from 1
 abbrev pub line_of : List ℕ → ℕ → ℕ
 line_of text at = count_by (λ b. b == 10) (take at text) + 1
 

@@ -1,5 +1,5 @@
--- What the reader's own types stand for: lexemes, classes, and the rows of `Table` (of the kernel's
--- Documentation/networking/filter, and this project's own).
+-- What the reader's own types stand for: lexemes, classes, and the rows of `Table`. The forms are those of the kernel's
+-- Documentation/networking/filter and this project's own.
 use Rattle.std.specs.Prelude.{List, map}
 use Rattle.cbpf_syntax.specs.declared.class.Class.{Class}
 use Rattle.cbpf_syntax.specs.declared.class.Class.TheVariants.{Word, Mark, Literal, Negated, Exactly, Extension, Name}

@@ -6,7 +6,7 @@ ghost use Rattle.cbpf_syntax.specs.declared.choice.Match.{Match};
 ghost use Rattle.cbpf_syntax.specs.Lexemes as lexemes;
 ghost use Rattle.cbpf_syntax.specs.Table as tables;
 ghost use Rattle.cbpf_syntax.specs.Table.{entry_rows, rows_of, mnemonics};
-ghost use Rattle.cbpf_syntax.specs.Choice.{common, IsBest, is_comma_at};
+ghost use Rattle.cbpf_syntax.specs.Choice.{IsBest, is_comma_at};
 ghost use Rattle.cbpf_syntax.specs.Fits.{fits};
 ghost use Rattle.cbpf_syntax.specs.Views.{class_of, symbol_of, lexeme_of, row_of, entry_of, mnemonic_view};
 
@@ -87,45 +87,6 @@ fn make_row(mnemonic: &Mnemonic, entry: &TableEntry, form: &'static [Class]) -> 
     }
 }
 
-/// Whether the form may beat the best row. It does so by more tokens that fit. It does so also by as many tokens, if
-/// these are all of the form and not all of the row. `false` is certain.
-#[inline(always)]
-fn may_be_better(best: &Match, form: &[Class], tokens: &[Lexeme<'_>]) -> bool
-    ensures { result ≡ false → (rs : List tables.Row) (row : tables.Row) → row.operand ≡ map class_of form.now →
-        IsBest rs (map lexeme_of tokens.now) best.now → IsBest (rs ++ row ∷ []) (map lexeme_of tokens.now) best.now }
-{
-    let n = best.len;
-    if n < form.len() {
-        n < tokens.len() && fits(form[n], tokens[n].symbol)
-    } else {
-        n == form.len() && !is_whole(best)
-    }
-}
-
-/// The better one of a row and an addressing mode's form.
-#[inline(always)]
-fn better_form(
-    best: Match,
-    mnemonic: &Mnemonic,
-    entry: &TableEntry,
-    form: &'static [Class],
-    tokens: &[Lexeme<'_>],
-) -> Match
-    ensures { (rs : List tables.Row) → IsBest rs (map lexeme_of tokens.now) best →
-        IsBest (rs ++ record {
-          mnemonic = mnemonic.now.word.now;
-          operand = map class_of form.now;
-          op = entry.now.op;
-          fields = entry.now.fields;
-        } ∷ []) (map lexeme_of tokens.now) result }
-{
-    if may_be_better(&best, form, tokens) {
-        better(best, match_row(make_row(mnemonic, entry, form), tokens))
-    } else {
-        best
-    }
-}
-
 /// The best one of a row and the forms of an addressing mode.
 #[inline(always)]
 fn better_mode(best: Match, mnemonic: &Mnemonic, entry: &TableEntry, tokens: &[Lexeme<'_>]) -> Match
@@ -134,7 +95,7 @@ fn better_mode(best: Match, mnemonic: &Mnemonic, entry: &TableEntry, tokens: &[L
 {
     let mut best = best;
     for form in forms(entry.mode) {
-        best = better_form(best, mnemonic, entry, form, tokens);
+        best = better(best, match_row(make_row(mnemonic, entry, form), tokens));
     }
     best
 }

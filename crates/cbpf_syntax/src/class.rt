@@ -1,6 +1,6 @@
 //! The classes of tokens.
 
-/// What may stand at a place of a form.
+/// A class of tokens. A form is a list of classes.
 #[derive(Clone, Copy)]
 pub enum Class {
     /// The word of these bytes.

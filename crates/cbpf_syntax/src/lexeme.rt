@@ -18,7 +18,7 @@ pub enum Symbol<'a> {
     Mark(u8),
 }
 
-/// A symbol, and the place of its first byte in the text, counted from 0.
+/// A symbol, and the position of its first byte in the text, counted from 0.
 #[derive(Clone, Copy)]
 pub struct Lexeme<'a> {
     pub symbol: Symbol<'a>,

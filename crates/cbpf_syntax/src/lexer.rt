@@ -1,15 +1,16 @@
 //! The tokens of a text.
 
-ghost use Rattle.std.specs.Prelude.{◌≡◌, ◌≤◌, length, IfOk, IfErr, IfSome, IfNone, All};
+ghost use Rattle.std.specs.Prelude.{◌≡◌, ◌≢◌, ◌≤◌, length, IfOk, IfErr, IfSome, IfNone, All};
+ghost use Rattle.cbpf_syntax.specs.declared.token.LexFault.TheVariants.{Memory};
 ghost use Rattle.cbpf_syntax.specs.Tokens.{Lexes, IsLexFault, IsSpanOf, line_of};
-ghost use Rattle.cbpf_syntax.specs.TokenReading.{IsNextToken, HasNoMore, IsNextFault};
+ghost use Rattle.cbpf_syntax.specs.TokenReading.{IsNextToken, HasNoMore};
 
 use crate::piece::{PieceKind, bad_piece_of, next_piece};
 use crate::token::{LexFault, Token};
 use std::alloc::Allocator;
 use std::marker::Model;
 
-/// The line of the byte at a place, counted from 1. A line ends at each newline byte.
+/// The line of the byte at a position, counted from 1. A line ends at each newline byte.
 pub fn line_of(text: &[u8], at: usize) -> u64
     requires { at ≤ length text.now }
     ensures { result ≡ line_of text.now at }
@@ -27,13 +28,17 @@ pub struct Lexer<'a> {
 
 impl<'a> Model for Lexer<'a> {
     ghost use Rattle.std.specs.Prelude.{◌≤◌, length};
+    ghost use Rattle.std.specs.Prelude.{List};
+    ghost use Rattle.cbpf_syntax.specs.declared.token.Token.{Token};
+    ghost use Rattle.cbpf_syntax.specs.Tokens.{LexesTo};
     ghost use Rattle.cbpf_syntax.specs.TokenReading.{PartlyRead};
 
     ghost Value = { PartlyRead };
 
     ghost view = { λ l. record { text = l.text.now; at = l.at } };
 
-    ghost invariant = { λ l. l.at ≤ length l.text.now };
+    // The text up to `at` can be cut into tokens.
+    ghost invariant = { λ l. (l.at ≤ length l.text.now) × ((tokens : List Token) × LexesTo l.text.now l.at tokens) };
 }
 
 impl<'a> Lexer<'a> {
@@ -66,7 +71,8 @@ impl<'a> Lexer<'a> {
         ensures token { IfOk result (λ next. IfSome next (IsNextToken self.old.text self.old.at self.new.at)) }
         ensures end { IfOk result (λ next. IfNone next (HasNoMore self.old.text self.old.at)) }
         ensures finished { IfOk result (λ next. IfNone next (self.new.at ≡ length self.old.text)) }
-        ensures fault { IfErr result (IsNextFault self.old.text self.old.at) }
+        ensures fault { IfErr result (IsLexFault self.old.text) }
+        ensures no_memory { IfErr result (λ fault. fault ≢ Memory) }
         ensures stays { IfErr result (λ _. self.new ≡ self.old) }
     {
         let text = self.text;
@@ -94,7 +100,7 @@ impl<'a> Lexer<'a> {
 
 /// The tokens of a source text, in order.
 ///
-/// The text is cut into blanks, comments and tokens, each the longest at its place.
+/// The text is cut into blanks, comments and tokens, each the longest at its position.
 /// Blanks are spaces, tabs, newlines and carriage returns. A comment is `/*` to the next
 /// `*/` after these two bytes, `;` to the end of the line, or a line whose first byte
 /// that isn't a blank is `#`.

@@ -7,7 +7,7 @@ ghost use Rattle.cbpf_syntax.specs.declared.token.Token.{Token};
 ghost use Rattle.cbpf_syntax.specs.Tokens.{Lexes, LexesTo, IsLexFault};
 ghost use Rattle.cbpf_syntax.specs.Lexemes.{AreLexemes, AreLexemesTo};
 ghost use Rattle.cbpf_syntax.specs.Lexemes as lexemes;
-ghost use Rattle.cbpf_syntax.specs.Refusals.{ParseFault, ItemsStuckAt, IsFirstRefusalAtPlace, reported_at};
+ghost use Rattle.cbpf_syntax.specs.Refusals.{ParseFault, ItemsStuckAt, IsFirstRefusalAtPosition, reported_at};
 ghost use Rattle.cbpf_syntax.specs.Ahead.{HasTaken, IsStepOf, step_len, left, StartsWithWord};
 ghost use Rattle.cbpf_syntax.specs.Ahead.{IsFirstLarge, ReadsOn, MayRemain};
 ghost use Rattle.cbpf_syntax.specs.Views.{lexeme_of};
@@ -35,14 +35,14 @@ pub enum Step {
     Stuck(usize),
 }
 
-/// Why tokens are refused, with the place in the text of the token that shows it, counted from 0.
+/// Why tokens are refused, with the position in the text of the token that shows it, counted from 0.
 #[derive(Clone, Copy, Debug, PartialEq, Eq)]
 pub enum SyntaxFault {
     /// A4: the tokens before this one begin a list of items, and with it they don't.
     Misplaced(usize),
     /// A3: a number above 2147483648 after a `-`.
     LargeNegative(usize),
-    /// A5: the tokens end inside an item. The place is the last one's.
+    /// A5: the tokens end inside an item. The position is the last one's.
     Unfinished(usize),
 }
 
@@ -78,7 +78,7 @@ fn step_at(tokens: &[Lexeme<'_>]) -> Option<Step>
     }
 }
 
-/// The place of the first number after a `-` that is too large: the known one, or one of the tokens.
+/// The position of the first number after a `-` that is too large: the known one, or one of the tokens.
 fn first_large(known: Option<usize>, tokens: &[Lexeme<'_>]) -> Option<usize>
     ensures known { IfSome known (λ at. result ≡ Some at) }
     ensures new { IfNone known (IsFirstLarge (map lexeme_of tokens.now) result) }
@@ -107,8 +107,7 @@ fn read_more<'a, A: Allocator>(
     ensures left { OnOk result (lexer.old.at + length ahead.new.items ≤ lexer.new.at + length ahead.old.items) }
     ensures more { IfOk result (λ ended. ended ≡ false → lexer.old.at < lexer.new.at) }
     ensures end { IfOk result (λ ended. ended ≡ true → lexer.new.at ≡ length text.now) }
-    ensures fault { IfErr result (λ fault. (taken : List lexemes.Lexeme) →
-        AreLexemesTo text.now lexer.old.at (taken ++ map lexeme_of ahead.old.items) → IsLexFault text.now fault) }
+    ensures fault { IfErr result (IsLexFault text.now) }
     ensures still { OnErr result (lexer.new.at ≡ lexer.old.at) }
     ensures kept { take (length ahead.old.items) ahead.new.items ≡ ahead.old.items }
 {
@@ -134,8 +133,7 @@ fn read_on(lexer: &mut Lexer<'_>) -> Result<(), LexFault>
     ensures within { lexer.new.at ≤ length lexer.new.text }
     ensures lexed { OnOk result ((tokens : List Token) → LexesTo lexer.old.text lexer.old.at tokens →
         (all : List Token) × Lexes lexer.old.text all) }
-    ensures fault { IfErr result (λ fault. (tokens : List Token) → LexesTo lexer.old.text lexer.old.at tokens →
-        IsLexFault lexer.old.text fault) }
+    ensures fault { IfErr result (IsLexFault lexer.old.text) }
     ensures no_memory { IfErr result (λ fault. fault ≢ Memory) }
 {
     while let Some(_token) = lexer.next_token()? {}
@@ -152,9 +150,9 @@ pub struct Reader<'a, A: Allocator> {
     at: usize,
     /// Whether the text has no more tokens.
     ended: bool,
-    /// The place of the last token that was taken.
+    /// The position of the last token that was taken.
     last: usize,
-    /// The place of the first number after a `-` that is too large, of the tokens that were taken.
+    /// The position of the first number after a `-` that is too large, of the tokens that were taken.
     large: Option<usize>,
 }
 
@@ -212,8 +210,7 @@ impl<'a, A: Allocator> Reader<'a, A> {
         ensures farther { OnOk result (self.old.to ≤ self.new.to) }
         ensures within { OnOk result (self.new.to ≤ length self.new.text) }
         ensures end { OnOk result (self.new.ended ≡ true → self.new.to ≡ length self.new.text) }
-        ensures fault { IfErr result (λ fault. (taken : List lexemes.Lexeme) →
-            HasTaken taken self.old → IsLexFault self.old.text fault) }
+        ensures fault { IfErr result (IsLexFault self.old.text) }
         ensures same { OnErr result (self.new ≡ self.old) }
     {
         let rest = self.ahead.len() - self.at;
@@ -249,8 +246,7 @@ impl<'a, A: Allocator> Reader<'a, A> {
         ensures some { IfOk result (λ step. IfSome step (λ _. 0 < length self.new.tokens)) }
         ensures end { IfOk result (λ step. step_len step ≡ length self.new.tokens → self.new.ended ≡ true) }
         ensures word { IfOk result (λ step. 0 < step_len step → StartsWithWord (map lexeme_of self.new.tokens)) }
-        ensures fault { IfErr result (λ fault. (taken : List lexemes.Lexeme) →
-            HasTaken taken self.old → IsLexFault self.old.text fault) }
+        ensures fault { IfErr result (IsLexFault self.old.text) }
         ensures same_text { OnErr result (self.new.text ≡ self.old.text) }
         ensures reads_on { OnErr result ((taken : List lexemes.Lexeme) →
             HasTaken taken self.old → HasTaken taken self.new) }
@@ -283,7 +279,7 @@ impl<'a, A: Allocator> Reader<'a, A> {
         self.at += n;
     }
 
-    /// The place of the first number after a `-` that is too large, of the tokens that were taken.
+    /// The position of the first number after a `-` that is too large, of the tokens that were taken.
     pub fn large(&self) -> Option<usize>
         ensures { result ≡ self.now.large }
     {
@@ -300,7 +296,7 @@ impl<'a, A: Allocator> Reader<'a, A> {
         ensures { (taken ts : List lexemes.Lexeme) → HasTaken taken self.now → MayRemain self.now ts →
             ItemsStuckAt (taken ++ ts) (length taken + n) →
             (refusal : ParseFault) × (at : ℕ) × (result ≡ reported_at refusal at) ×
-            IsFirstRefusalAtPlace (taken ++ ts) refusal at }
+            IsFirstRefusalAtPosition (taken ++ ts) refusal at }
     {
         let ahead = self.ahead();
         if let Some(at) = first_large(self.large, &ahead[..n]) {
@@ -319,8 +315,7 @@ impl<'a, A: Allocator> Reader<'a, A> {
     pub fn finish(&self) -> Result<(), LexFault>
         ensures lexed { OnOk result ((taken : List lexemes.Lexeme) → HasTaken taken self.now →
             (ts : List lexemes.Lexeme) × MayRemain self.now ts × AreLexemes self.now.text (taken ++ ts)) }
-        ensures fault { IfErr result (λ fault. (taken : List lexemes.Lexeme) → HasTaken taken self.now →
-            IsLexFault self.now.text fault) }
+        ensures fault { IfErr result (IsLexFault self.now.text) }
         ensures no_memory { IfErr result (λ fault. fault ≢ Memory) }
     {
         let mut rest = self.lexer.copied();

@@ -77,7 +77,7 @@ pub(crate) fn is_reserved(word: &[u8]) -> bool
     !ends_with_digit(word) && is_listed(word)
 }
 
-/// Whether a token may stand at a place of a form.
+/// Whether the symbol is of the class.
 #[inline(always)]
 pub(crate) fn fits(class: Class, symbol: Symbol<'_>) -> bool
     ensures { result ≡ fits (class_of class) (symbol_of symbol.entry) }

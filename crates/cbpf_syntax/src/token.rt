@@ -13,7 +13,7 @@ pub enum Kind {
     Mark(u8),
 }
 
-/// A token and its place: the bytes of the text from `start` up to `end`, counted from 0.
+/// A token and its position: the bytes of the text from `start` up to `end`, counted from 0.
 #[derive(Clone, Copy, Debug, PartialEq, Eq)]
 pub struct Token {
     pub kind: Kind,

@@ -3,7 +3,7 @@ use Rattle.std.proofs.Common.{rules, ◌≡◌, refl, sym, subst, ℕ, List, ◌
 use Rattle.std.proofs.Common.{◌∷◌, ◌++◌, length, map, take, drop, get_or, Option, Some, None, arith, append_assoc}
 use Rattle.std.proofs.Common.{append-nil, length-append}
 use Rattle.cbpf_syntax.specs.Tokens.{line_of}
-use Rattle.cbpf_syntax.specs.Refusals.{ParseFault, IsAccepted, ItemsStuckAt, IsFirstRefusalAtPlace}
+use Rattle.cbpf_syntax.specs.Refusals.{ParseFault, IsAccepted, ItemsStuckAt, IsFirstRefusalAtPosition}
 use Rattle.cbpf_syntax.specs.Lexemes.{Lexeme, AreLexemes}
 use Rattle.cbpf_syntax.specs.Items.{Item, AreLabels, Items}
 use Rattle.cbpf_code.specs.declared.insn.Insn.{Insn}
@@ -67,7 +67,7 @@ items_refused text ts is (faults.At kind line) t p a h =
 
 -- the first refusal of the grammar is the text's
 pub grammar_refused : (text : List ℕ) (ts : List Lexeme) (refusal : ParseFault) (at : ℕ) (fault : AsmFault)
-    → AreLexemes text ts → IsFirstRefusalAtPlace ts refusal at
+    → AreLexemes text ts → IsFirstRefusalAtPosition ts refusal at
     → fault ≡ faults.At (grammar_kind refusal) (line_of text at)
     → IsRefused text fault
 grammar_refused text ts refusal at fault t first e =

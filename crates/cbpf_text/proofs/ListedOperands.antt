@@ -8,7 +8,7 @@ use Rattle.cbpf_code.specs.declared.checker.TheConstants.{MAX_INSTRUCTIONS}
 use Rattle.cbpf_code.specs.declared.insn.Insn.{Insn}
 use Rattle.cbpf_code.specs.declared.extension.Ext.{Ext}
 use Rattle.cbpf_code.specs.declared.extension.Ext.TheVariants.{Proto}
-use Rattle.cbpf_code.specs.Extension.{ext_at, ext_name, ext_named, ext_place}
+use Rattle.cbpf_code.specs.Extension.{ext_at, ext_name, ext_named, ext_number}
 use Rattle.cbpf_code.specs.Text.{hex}
 use Rattle.cbpf_code.specs.WordForm.{InRange}
 use Rattle.cbpf_code.proofs.TableLemmas.{ext_only}
@@ -17,7 +17,7 @@ use Rattle.cbpf_syntax.proofs.Spelled.Segment.{blank, word, number, mark}
 use Rattle.cbpf_syntax.specs.Fits.{fits_all, is_one_of, extension_names}
 use Rattle.cbpf_text.specs.Operands.{names_at}
 use Rattle.cbpf_code.specs.Syntax.{Operand, Operand as operands}
-use Rattle.cbpf_code.specs.Listing.{immediate_operand, operand_text, place_or_name}
+use Rattle.cbpf_code.specs.Listing.{immediate_operand, operand_text, offset_or_name}
 use Rattle.cbpf_syntax.specs.declared.table.Fields.{Fields}
 use Rattle.cbpf_syntax.specs.declared.table.Fields.TheVariants.{Goto, Branch}
 use Rattle.cbpf_syntax.specs.Lexemes.{Lexeme}
@@ -81,7 +81,7 @@ ext_listed Proto = refl
 ext_listed e = refl
 
 ext_value : (e : Ext)
-    → option_map ext_place (ext_named (first_byte (ext_name e) ∷ later_bytes (ext_name e))) ≡ Some (ext_place e)
+    → option_map ext_number (ext_named (first_byte (ext_name e) ∷ later_bytes (ext_name e))) ≡ Some (ext_number e)
 unfolding ext_named
 ext_value Proto = refl
 ext_value e = refl
@@ -111,9 +111,9 @@ pub operand_spelled : (o : Operand) (e : Option Ext) (i : ℕ) (insn : Insn) →
 operand_spelled operands.Immediate e i insn p l = immediate_text (insn.k == 0) insn.k []
     ∙ append-nil (immediate_operand insn.k)
 operand_spelled operands.Absolute (Some x) i insn p l =
-    ap (λ (w : List ℕ). codes " " ++ (w ++ [])) (ext_word x).0 ∙ sym (ap (λ q. place_or_name q insn.k) p)
+    ap (λ (w : List ℕ). codes " " ++ (w ++ [])) (ext_word x).0 ∙ sym (ap (λ q. offset_or_name q insn.k) p)
 operand_spelled operands.Absolute None i insn p l =
-    decimal_text (codes " [") (codes "]") insn.k l ∙ sym (ap (λ q. place_or_name q insn.k) p)
+    decimal_text (codes " [") (codes "]") insn.k l ∙ sym (ap (λ q. offset_or_name q insn.k) p)
 operand_spelled operands.Indexed e i insn p l = decimal_text (codes " [x + ") (codes "]") insn.k l
 operand_spelled operands.Memory e i insn p l = decimal_text (codes " M[") (codes "]") insn.k l
 operand_spelled operands.Header e i insn p l = decimal_text (codes " 4*([") (codes "]&0xf)") insn.k l

@@ -27,7 +27,7 @@ Resolves labels look = (k : Name) → look k ≡ item_named labels k.bytes.now
 
 -- What is kept of items.
 
--- the target is the label, by its name and its place
+-- the target is the label, by its name and its position
 abbrev pub KeepsLabel : Target → Lexeme → Type 0
 KeepsLabel t l = (t.name.bytes.now ≡ name_of l) × (t.at ≡ l.at)
 
@@ -48,7 +48,7 @@ pub record IsStatement (s : Statement) (item : Item) : Type 0 where
 abbrev pub AreStatements : List Statement → List Item → Type 0
 AreStatements statements items = AllZip IsStatement statements items
 
--- the look-ups answer for which items the labels stand, and no name is given twice; or the place is that of the first
+-- the look-ups answer for which items the labels stand, and no name is given twice; or the position is that of the first
 -- label that is set a second time
 abbrev pub AreSet : List (Lexeme × ℕ) → Option ℕ → (Name → Option ℕ) → Type 0
 AreSet labels None look = Resolves labels look × (first_repeat labels ≡ None)
@@ -61,7 +61,7 @@ pub record IsKept (statements : List Statement) (repeat : Option ℕ) (look : Na
   pub set : AreSet (labels_from 0 items ++ labels_of (length items) waiting) repeat look
   pub most : length items ≤ MAX_INSTRUCTIONS
 
--- what is kept of items, where there are at most MAX_INSTRUCTIONS; where there are more, only the place of the mnemonic
+-- what is kept of items, where there are at most MAX_INSTRUCTIONS; where there are more, only the position of the mnemonic
 -- of the first that is too many
 abbrev pub IsDraft : Option ℕ → List Statement → Option ℕ → (Name → Option ℕ) → List Item → List Lexeme → Type 0
 IsDraft None statements repeat look items waiting = IsKept statements repeat look items waiting

@@ -29,12 +29,12 @@ labels_from index (item ∷ items) = labels_of index item.labels ++ labels_from 
 abbrev pub item_named : List (Lexeme × ℕ) → List ℕ → Option ℕ
 item_named labels name = lookup (λ t. bytes_eq (name_of t) name) labels
 
--- the place in the text of the first label whose name is in `before` or repeats an earlier one
+-- the position in the text of the first label whose name is in `before` or repeats an earlier one
 abbrev pub repeat_after : List (Lexeme × ℕ) → List (Lexeme × ℕ) → Option ℕ
 repeat_after before [] = None
 repeat_after before (l ∷ ls) =
     if is_some (item_named before (name_of l.0)) then Some l.0.at else repeat_after (before ++ (l ∷ [])) ls
 
--- the place in the text of the first label whose name an earlier one gives
+-- the position in the text of the first label whose name an earlier one gives
 abbrev pub first_repeat : List (Lexeme × ℕ) → Option ℕ
 first_repeat labels = repeat_after [] labels

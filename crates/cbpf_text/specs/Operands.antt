@@ -2,7 +2,7 @@
 -- Documentation/networking/filter and this project's own.
 use Rattle.std.specs.Prelude.{ℕ, ◌-◌, ◌%◌, ◌^◌, List, [], ◌∷◌, ◌++◌, Option, Some, None}
 use Rattle.std.specs.Option.{option_map, unwrap_or}
-use Rattle.cbpf_code.specs.Extension.{ext_named, ext_place}
+use Rattle.cbpf_code.specs.Extension.{ext_named, ext_number}
 use Rattle.cbpf_syntax.specs.Classes.{Class}
 use Rattle.cbpf_syntax.specs.Classes.Class.{literal, negated, extension, name}
 use Rattle.cbpf_syntax.specs.Lexemes.{Symbol, Lexeme}
@@ -14,7 +14,7 @@ use Rattle.cbpf_syntax.specs.Items.{Item}
 abbrev pub value_at : Class → Symbol → Option ℕ
 value_at literal (number n) = Some n
 value_at negated (number n) = Some ((2 ^ 32 - n) % 2 ^ 32)
-value_at extension (word w) = option_map ext_place (ext_named w)
+value_at extension (word w) = option_map ext_number (ext_named w)
 value_at c s = None
 
 -- the literal of tokens at their classes, of which a form has at most one: its value, or 0

@@ -12,7 +12,7 @@ use Rattle.cbpf_syntax.specs.declared.table.Fields.{Fields}
 use Rattle.cbpf_syntax.specs.declared.table.Fields.TheVariants.{Constant, Goto, Branch, Swapped}
 use Rattle.cbpf_syntax.specs.Lexemes.{Lexeme, lexemes_of}
 use Rattle.cbpf_syntax.specs.Items.{Item, Items}
-use Rattle.cbpf_syntax.specs.Refusals.{ParseFault, IsAccepted, IsFirstRefusalAtPlace}
+use Rattle.cbpf_syntax.specs.Refusals.{ParseFault, IsAccepted, IsFirstRefusalAtPosition}
 use Rattle.cbpf_text.specs.declared.encode.TheConstants.{FARTHEST}
 use Rattle.cbpf_text.specs.declared.fault.AsmKind.{AsmKind}
 use Rattle.cbpf_text.specs.declared.fault.AsmKind.TheVariants as kinds
@@ -59,7 +59,7 @@ target_fault u (Some item) =
     else (if u.conditional && nat_lt (u.index + 1 + FARTHEST) item then Some kinds.TooFar
     else None)
 
--- the same among labels, with the place in the text that shows it
+-- the same among labels, with the position in the text that shows it
 abbrev pub use_fault : List (Lexeme × ℕ) → Use → Option (AsmKind × ℕ)
 use_fault labels u =
     option_map (λ kind. (kind, u.target.at)) (target_fault u (item_named labels (name_of u.target)))
@@ -69,12 +69,13 @@ abbrev pub uses_fault : List (Lexeme × ℕ) → List Use → Option (AsmKind ×
 uses_fault labels [] = None
 uses_fault labels (u ∷ us) = option_or (use_fault labels u) (uses_fault labels us)
 
--- the place in the text of an item's mnemonic
+-- the position in the text of an item's mnemonic
 abbrev pub mnemonic_at : Item → ℕ
 mnemonic_at item = option_map_or (λ (t : Lexeme). t.at) (slice_get item.body 0) 0
 
--- Why items are refused, and the place in the text that shows it. There is no item, at place 0; there are more than
--- MAX_INSTRUCTIONS, at the mnemonic of the first that is too many; a label is set twice; or a use is refused.
+-- Why items are refused, and the position in the text that shows it. Where there is no item, it is 0. Where there are more
+-- than MAX_INSTRUCTIONS, it is that of the mnemonic of the first that is too many. Where a label is set twice, it is that of
+-- the label that repeats. Where a use is refused, it is that of the label in the operand.
 abbrev pub items_fault : List Item → Option (AsmKind × ℕ)
 items_fault [] = Some (kinds.NoInstruction, 0)
 items_fault items =
@@ -88,9 +89,9 @@ grammar_kind ParseFault.Misplaced = kinds.Misplaced
 grammar_kind ParseFault.LargeNegative = kinds.LargeNumber
 grammar_kind ParseFault.Unfinished = kinds.Unfinished
 
--- why tokens are refused, and the place: the first refusal of the grammar, and where there is none that of the items
+-- why tokens are refused, and the position: the first refusal of the grammar, and where there is none that of the items
 pub data IsTokensFault (ts : List Lexeme) : AsmKind → ℕ → Type 0 where
-  of_grammar : (fault : ParseFault) (at : ℕ) → IsFirstRefusalAtPlace ts fault at
+  of_grammar : (fault : ParseFault) (at : ℕ) → IsFirstRefusalAtPosition ts fault at
       → IsTokensFault ts (grammar_kind fault) at
   of_items : (items : List Item) (kind : AsmKind) (at : ℕ) → Items ts items → IsAccepted ts
       → items_fault items ≡ Some (kind, at) → IsTokensFault ts kind at

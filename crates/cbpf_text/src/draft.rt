@@ -27,7 +27,7 @@ use std::alloc::{AllocFailed, Allocator};
 #[derive(Clone, Copy)]
 pub struct Target<'a> {
     pub name: Name<'a>,
-    /// The place of its first byte in the text.
+    /// The position of its first byte in the text.
     pub at: usize,
 }
 
@@ -48,7 +48,7 @@ pub struct Statement<'a> {
 pub struct Draft<'a, A: Allocator> {
     pub statements: Vec<Statement<'a>, A>,
     pub labels: Labels<'a, A>,
-    /// The place of the mnemonic after `MAX_INSTRUCTIONS` others. From there on nothing is kept.
+    /// The position of the mnemonic after `MAX_INSTRUCTIONS` others. From there on nothing is kept.
     pub excess: Option<usize>,
 }
 

@@ -45,7 +45,7 @@ pub type LabelTable<'a, A> = IndexMap<Name<'a>, u32, LabelHasher, A>;
 #[derive(Drop)]
 pub struct Labels<'a, A: Allocator> {
     pub table: LabelTable<'a, A>,
-    /// The place of the first label that is set a second time. From there on none is kept.
+    /// The position of the first label that is set a second time. From there on none is kept.
     pub repeat: Option<usize>,
 }
 

@@ -1,4 +1,4 @@
-//! A fault by its place in the text, before its line is known.
+//! A fault by its position in the text, before its line is known.
 
 ghost use Rattle.std.specs.Prelude.{◌≡◌};
 ghost use Rattle.cbpf_syntax.specs.Tokens.{line_of};
@@ -7,10 +7,10 @@ ghost use Rattle.cbpf_text.specs.declared.fault.AsmFault.TheVariants.{At};
 use crate::fault::{AsmFault, AsmKind};
 use cbpf_syntax::line_of;
 
-/// What is wrong, and the place of the token that shows it, counted in bytes from 0.
+/// What is wrong, and the position of the token that shows it, counted in bytes from 0.
 pub type PlacedFault = (AsmKind, usize);
 
-/// The fault on the line of its place. No place lies after the text, but only a proof of each caller would say so.
+/// The fault on the line of its position. No position lies after the text, but only a proof of each caller would say so.
 pub(crate) fn fault_on_line(text: &[u8], fault: PlacedFault) -> AsmFault
     ensures { result ≡ At fault.0 (line_of text.now fault.1) }
 {

@@ -18,7 +18,7 @@ pub(crate) fn asm_fault(fault: LexFault) -> AsmFault
     }
 }
 
-/// The tokens of a source text, in order, each with its place.
+/// The tokens of a source text, in order, each with its position.
 ///
 /// # Errors
 ///

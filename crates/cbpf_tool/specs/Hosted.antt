@@ -41,7 +41,7 @@ without_input h = record h { input = [] }
 abbrev pub without_output : Hosted → Hosted
 without_output h = record h { has_output = false }
 
--- it is known what the host holds, and its standard output was not given
+-- it is known what the host holds, and its standard output was not given away
 abbrev pub IsReady : Hosted → Type 0
 IsReady h = IsTrue h.is_known × IsTrue h.has_output
 

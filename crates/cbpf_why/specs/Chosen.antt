@@ -14,7 +14,7 @@ beyond count range =
     if nat_le range.first range.last && nat_lt count range.last
     then Some (record { first = if nat_lt count range.first then range.first else count + 1; last = range.last }) else None
 
--- a packet is in one of the ranges; where there is none, it is all packets
+-- a packet is in one of the ranges; where no range is given, each packet is chosen
 abbrev pub is_chosen : List PacketRange → ℕ → Bool
 is_chosen [] n = true
 is_chosen (range ∷ ranges) n = list_any (is_within n) (range ∷ ranges)

@@ -73,7 +73,7 @@ report_text report ranges m c =
 abbrev pub ends_beyond : ℕ → PacketRange → Bool
 ends_beyond count range = nat_lt count range.last
 
--- a capture of so many packets is read to its end where no range is given, or a range ends beyond
+-- a capture of so many packets is read to its end where no range is given, or a range ends beyond its last packet
 abbrev pub goes_to_end : List PacketRange → ℕ → Bool
 goes_to_end ranges count = (length ranges == 0) || list_any (ends_beyond count) ranges
 

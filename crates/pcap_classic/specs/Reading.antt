@@ -23,7 +23,7 @@ abbrev pub NeedsRoom : List Record → Ending → Type 0
 NeedsRoom (next ∷ rest) how = ROOM < RECORD_HEADER + length next.bytes
 NeedsRoom [] how = (offset : ℕ) × (how ≡ CutData offset)
 
--- where this was left of a capture: its first record is lent, and the rest is left; or it has no record, and its ending
+-- where `s` was left of a capture: its first record is lent, and the rest is left; or it has no record, and its ending
 -- is known; or a read failed or memory ran out, and it is left as it was. Memory runs out only where the next record needs
 -- room.
 abbrev pub Gives : Savefile → Result (Option Captured) ReadFault → Reading → Type 0

@@ -45,7 +45,7 @@ pub record IsSavefile (file : List ℕ) (c : Savefile) : Type 0 where
   pub link : c.link ≡ number_at order 20 4 file
   pub contents : Holds order 1 FILE_HEADER (drop FILE_HEADER file) c.records c.ending
 
--- a fault stands: why the file holds no capture, or `Memory`, where the file does hold a capture with a record
+-- a file is refused with this fault: why it holds no capture, or `Memory`, where the file does hold a capture with a record
 abbrev pub IsRefusal : CaptureFault → List ℕ → Type 0
 IsRefusal FileHeaderCut file = length file < FILE_HEADER
 IsRefusal UnknownMagic file = (FILE_HEADER ≤ length file)

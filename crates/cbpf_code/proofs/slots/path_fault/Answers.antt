@@ -24,8 +24,8 @@ loads_any-requires c = λ loads.
     (formed_allowed _ _ _ _ c.requires (here _ _ c.loop-i-test.true) (sym c.op_of.ensures ∙ c.in-Some.is)).slot
     (loads_use-slot c.in-Some.op loads)
 
-pub still_unwritten-left-requires : goal.still_unwritten-left-requires
-still_unwritten-left-requires c = λ stores.
+pub still_unwritten-after-requires : goal.still_unwritten-after-requires
+still_unwritten-after-requires c = λ stores.
     (formed_allowed _ _ _ _ c.requires (here _ _ c.loop-i-test.true) (sym c.op_of.ensures ∙ c.in-Some.is)).slot
     (stores_use-slot c.in-Some.op stores)
 
@@ -50,7 +50,7 @@ pub loop-i-preserved : goal.loop-i-preserved
 loop-i-preserved c =
     let known = sym c.op_of.ensures ∙ c.in-Some.is in
     let at = here _ _ c.loop-i-test.true in
-    tracks_paths-next _ _ _ _ _ _ _ at known c.loop-i.invariant c.still_unwritten-left.ensures c.propagate.ensures
+    tracks_paths-next _ _ _ _ _ _ _ at known c.loop-i.invariant c.still_unwritten-after.ensures c.propagate.ensures
     (λ loads. (formed_allowed _ _ _ _ c.requires at known).slot (loads_use-slot c.in-Some.op loads))
     (λ loaded. let never = c.if-loads_any.ensures.1 loaded in absurd (cc))
 

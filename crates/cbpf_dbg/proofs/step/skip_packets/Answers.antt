@@ -19,26 +19,26 @@ nonzero_div-packets g c =
     omega (arith, sound_some _ c.args.loaded.now.sound, c.len.ensures.value, c.from-longest.ensures)
 
 past : (g : Over) (c : After-run_records-paused g)
-    → GoesPast c.args.loaded.now (record c.skip.walk { end = c.min.result }) c.run_records-paused.new.walk c.skip.left
+    → GoesPast c.args.loaded.now (record c.skip.walk { end = c.min.result }) c.run_records-paused.new.walk c.skip.ahead
     c.skip.meter c.run_records-paused.new.meter
 past g c =
     let so = c.skip.invariant in
     let longest = c.from-longest.ensures ∙ c.len.ensures.value in
-    goes_past c.args.loaded.now _ _ c.skip.left _ _ _ so.nears.passes.stands so.before
+    goes_past c.args.loaded.now _ _ c.skip.ahead _ _ _ so.nears.passes.stands so.before
     (rw longest at c.skip-test.true) c.if-walk-past.true (ap (λ n. n + 1) c.count-past.ensures.value)
     (rw longest at c.saturating_add.ensures) c.min.ensures
     c.run_records-paused.ensures.goes c.run_records-paused.ensures.none
 
-pub overflow_sub-left : goal.overflow_sub-left
-overflow_sub-left g c = let went = past g (goal.at.overflow_sub-left g c).After-run_records-paused in
+pub overflow_sub-ahead : goal.overflow_sub-ahead
+overflow_sub-ahead g c = let went = past g (goal.at.overflow_sub-ahead g c).After-run_records-paused in
     omega (arith, c.spent-before.ensures, c.spent.ensures, went.rises)
 
-pub overflow_cast-left : goal.overflow_cast-left
-overflow_cast-left g c = let went = past g (goal.at.overflow_cast-left g c).After-run_records-paused in
+pub overflow_cast-ahead : goal.overflow_cast-ahead
+overflow_cast-ahead g c = let went = past g (goal.at.overflow_cast-ahead g c).After-run_records-paused in
     omega (arith, c.spent-before.ensures, c.spent.ensures, went.fewer)
 
-pub overflow_sub-left-in-skip : goal.overflow_sub-left-in-skip
-overflow_sub-left-in-skip g c = let went = past g (goal.at.overflow_sub-left-in-skip g c).After-run_records-paused in
+pub overflow_sub-ahead-in-skip : goal.overflow_sub-ahead-in-skip
+overflow_sub-ahead-in-skip g c = let went = past g (goal.at.overflow_sub-ahead-in-skip g c).After-run_records-paused in
     omega (arith, c.spent-before.ensures, c.spent.ensures, went.fewer)
 
 pub skip-smaller : goal.skip-smaller

@@ -6,7 +6,7 @@ use Rattle.cbpf_dbg.proofs.step.skip_packets.Given as goal
 abbrev pub invariant-skip : goal.invariant-skip
 invariant-skip g l =
     record {
-      nears : Nears (machine_in l.loaded) (records_in l.loaded) l.fn.cursor l.walk.cursor l.n l.left
+      nears : Nears (machine_in l.loaded) (records_in l.loaded) l.fn.cursor l.walk.cursor l.n l.ahead
           l.fn.meter l.meter;
       left : AreLeft (records_in l.loaded) l.walk.cursor.place l.walk.left;
       before : l.walk.cursor.place.step ≡ 0;

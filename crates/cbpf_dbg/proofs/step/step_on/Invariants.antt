@@ -9,7 +9,7 @@ use Rattle.cbpf_dbg.proofs.step.step_on.Given as goal
 abbrev pub invariant-go : goal.invariant-go
 invariant-go g l =
     record {
-      nears : Nears (machine_in l.loaded) (records_in l.loaded) l.fn.cursor l.cursor l.n l.left l.fn.meter l.meter;
+      nears : Nears (machine_in l.loaded) (records_in l.loaded) l.fn.cursor l.cursor l.n l.ahead l.fn.meter l.meter;
       left : AreLeft (records_in l.loaded) l.cursor.place l.records;
       keeps : Keeps (λ xs. g.T.Trail.stands_for l.trail xs) (machine_in l.loaded) (records_in l.loaded) l.cursor.place;
     }

@@ -1,4 +1,4 @@
-use Rattle.std.proofs.Common.{sym, ap, ◌∙◌, ◌++◌, [], map, take, subst, append_assoc}
+use Rattle.std.proofs.Common.{sym, ap, ◌∙◌, ◌++◌, [], ◌∷◌, map, take, subst, append_assoc}
 use Rattle.cbpf_syntax.specs.Choice.{IsBest}
 use Rattle.cbpf_syntax.specs.Table.{entry_rows}
 use Rattle.cbpf_syntax.specs.Views.{lexeme_of, entry_of}
@@ -12,9 +12,11 @@ loop-form-preserved c rs b =
     let step =
     next_form c.args.mnemonic.now.word.now c.args.entry.now c.forms-form-items.result.now c.loop-form.form-index
     (record { ref_ptr = (0, 0); now = [] }) c.forms-form-items.ensures.forms c.loop-form-test.true in
-    subst (λ xs. IsBest xs (map lexeme_of c.args.tokens.now) c.better_form-best.result)
+    let new = subst (λ r. IsBest (r ∷ []) (map lexeme_of c.args.tokens.now) c.match_row.result) c.make_row.ensures
+    c.match_row.ensures in
+    subst (λ xs. IsBest xs (map lexeme_of c.args.tokens.now) c.better-best.result)
     (append_assoc rs front _ ∙ ap (λ ys. rs ++ ys) (sym step))
-    (c.better_form-best.ensures (rs ++ front) (c.loop-form.invariant rs b))
+    (c.better-best.ensures (rs ++ front) _ (map lexeme_of c.args.tokens.now) (c.loop-form.invariant rs b) new)
 
 pub returns : goal.returns
 returns c rs b = subst (λ xs. IsBest (rs ++ xs) (map lexeme_of c.args.tokens.now) c.loop-form.best)

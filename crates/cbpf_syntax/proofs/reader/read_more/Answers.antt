@@ -1,7 +1,6 @@
 use Rattle.std.proofs.Common.{rules, length-append}
 use Rattle.std.proofs.lemmas.List.{map-append, take-append-le}
 use Rattle.std.proofs.lemmas.Result.{err_from_is_err_and}
-use Rattle.cbpf_syntax.proofs.Cuts.{text_fault}
 use Rattle.cbpf_syntax.proofs.Taking.{ahead_more, ahead_end}
 use Rattle.cbpf_syntax.proofs.reader.read_more.Goals as goal
 
@@ -9,8 +8,7 @@ pub returns-in_err-next_token-clause-fault : goal.returns-in_err-next_token-clau
 returns-in_err-next_token-clause-fault g c =
     let p = err_from_is_err_and c.from_residual.result c.from_residual.ensures.1 in
     let inv = c.loop-i.invariant in
-    rw (p.1, p.2) (λ taken a. let b = inv.read taken a in text_fault c.args.text.now c.loop-i.here.at b.tokens
-    c.in_err-next_token.field-0.0 b.lexed (rw inv.text at c.in_err-next_token.ensures.fault))
+    rw (p.1, p.2) (rw inv.text at c.in_err-next_token.ensures.fault)
 
 pub returns-in-None-clause-read : goal.returns-in-None-clause-read
 returns-in-None-clause-read g c taken a =

@@ -1,7 +1,6 @@
 use Rattle.std.specs.Prelude.{IfNone}
 use Rattle.std.proofs.Common.{◌≡◌, Option, Some, None, ◌∙◌, ◌++◌, ◌∷◌, [], refl}
 use Rattle.std.proofs.lemmas.Result.{err_from_is_err_and}
-use Rattle.cbpf_syntax.proofs.Cuts.{text_fault}
 use Rattle.cbpf_syntax.specs.TokenReading.{IsNextToken, HasNoMore}
 use Rattle.cbpf_syntax.proofs.reader.read_on.Goals as goal
 
@@ -9,8 +8,7 @@ pub returns-in_err-_token-clause-fault : goal.returns-in_err-_token-clause-fault
 returns-in_err-_token-clause-fault c =
     let p = err_from_is_err_and c.from_residual.result c.from_residual.ensures.1 in
     let inv = c.loop-token.invariant in
-    rw (p.1, p.2) (λ ts lexed. let us = inv.read ts lexed in text_fault c.args.lexer.now.text c.loop-token.lexer.at
-    us.0 c.in_err-_token.field-0.0 us.1 (rw inv.text at c.in_err-_token.ensures.fault))
+    rw (p.1, p.2) (rw inv.text at c.in_err-_token.ensures.fault)
 
 pub loop-token-preserved : goal.loop-token-preserved
 loop-token-preserved c =

@@ -15,4 +15,4 @@ returns-in-Ok g c taken r stuck =
 pub returns-in-Err : goal.returns-in-Err
 returns-in-Err g c taken r stuck =
     lex_refused c.args.text.now c.asm_fault.result (c.asm_fault.ensures c.args.text.now
-    (subst (λ u. IsLexFault u c.in-Err.fault) c.requires.text (c.in-Err.ensures.fault taken r)))
+    (subst (λ u. IsLexFault u c.in-Err.fault) c.requires.text c.in-Err.ensures.fault))

@@ -31,7 +31,7 @@ pub returns-in-Err-clause-refused : goal.returns-in-Err-clause-refused
 returns-in-Err-clause-refused g c =
     let inv = c.loop-next.invariant in
     lex_refused c.args.text.now c.asm_fault.result (c.asm_fault.ensures c.args.text.now
-    (subst (λ u. IsLexFault u c.in-Err.fault) inv.text (c.in-Err.ensures.fault inv.state.0 inv.state.1)))
+    (subst (λ u. IsLexFault u c.in-Err.fault) inv.text c.in-Err.ensures.fault))
 
 -- the state after a step, and what the step says of the tokens
 abbrev Stepped : List ℕ → Ahead → Option ℕ → List Statement → Option ℕ → (Name → Option ℕ) → Bool → Option Step → Type 0

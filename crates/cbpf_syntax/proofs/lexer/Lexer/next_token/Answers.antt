@@ -15,10 +15,11 @@ returns-in-Some-clause-fault c =
     let at = c.loop-at.at in
     let piece = c.next_piece-piece.result in
     let h = here (goal.at.returns-in-Some-clause-fault c).After-next_piece-piece in
-    rw (← c.self.view_is) (λ ts lexed. record {
+    let stands = c.self.invariant.1 in
+    rw (← c.self.view_is) (record {
       at = at;
-      tokens = ts;
-      before = c.loop-at.invariant.more ts lexed;
+      tokens = stands.0;
+      before = c.loop-at.invariant.more stands.0 stands.1;
       size = piece.size;
       bad = subst (λ k. IsPieceAt text at (record { kind = k; size = piece.size })) c.in-Some.ensures.bad h;
       line = c.line_of.ensures;
@@ -57,3 +58,19 @@ loop-at-preserved c =
 
 pub returns-clause-finished : goal.returns-clause-finished
 returns-clause-finished c = search rules
+
+pub invariant_of-self-in-TokenOf : goal.invariant_of-self-in-TokenOf
+invariant_of-self-in-TokenOf c =
+    let text = c.self.inside.text.now in
+    let at = c.loop-at.at in
+    let piece = c.next_piece-piece.result in
+    let h = here (goal.at.invariant_of-self-in-TokenOf c).After-next_piece-piece in
+    let stands = c.self.invariant.1 in
+    rw c.loop-at.invariant.same (
+      piece_within text at piece c.loop-at-test.true h,
+      (
+        _,
+        token_more text c.self.inside.at at piece c.in-TokenOf.kind c.loop-at.invariant.more h c.in-TokenOf.is
+            stands.0 stands.1,
+      ),
+    )

@@ -3,7 +3,7 @@ use Rattle.std.proofs.Common.{length, map, drop, take, List, arith, append-nil, 
 use Rattle.std.proofs.lemmas.List.{drop_all, drop_more}
 use Rattle.std.specs.Prelude.{option_map, slice_get}
 use Rattle.cbpf_syntax.specs.Ahead.{IsFirstLarge}
-use Rattle.cbpf_syntax.specs.Refusals.{ItemsStuckAt, IsPlaceOf, IsFirstRefusalAtPlace}
+use Rattle.cbpf_syntax.specs.Refusals.{ItemsStuckAt, IsPositionOf, IsFirstRefusalAtPosition}
 use Rattle.cbpf_syntax.specs.Refusals.ParseFault.{Misplaced, LargeNegative, Unfinished}
 use Rattle.cbpf_syntax.specs.Lexemes.{Lexeme}
 use Rattle.cbpf_syntax.specs.declared.lexeme.Lexeme as declared_lexeme
@@ -41,19 +41,19 @@ module _ (taken : List Lexeme) (ahead : List declared_lexeme.Lexeme) (n : ℕ) (
       subst (λ i. ItemsStuckAt (before taken ahead n ++ after) i) count (rw parts at stuck)
 
   large : (at : ℕ) → IsFirstLarge (before taken ahead n) (Some at)
-      → IsFirstRefusalAtPlace (taken ++ ts) LargeNegative at
+      → IsFirstRefusalAtPosition (taken ++ ts) LargeNegative at
   large at h = rw parts (refused_large (before taken ahead n) after at here h)
 
   misplaced : (d : declared_lexeme.Lexeme) → n < length ahead → IsFirstLarge (before taken ahead n) None
-      → IsFirstRefusalAtPlace (taken ++ ts) Misplaced (get_or ahead n d).at
+      → IsFirstRefusalAtPosition (taken ++ ts) Misplaced (get_or ahead n d).at
   misplaced d more none =
-      let place : IsPlaceOf (map lexeme_of (drop n ahead) ++ rest) 0 (get_or ahead n d).at =
+      let place : IsPositionOf (map lexeme_of (drop n ahead) ++ rest) 0 (get_or ahead n d).at =
       ap (λ us. option_map (λ (t : Lexeme). t.at) (slice_get (map lexeme_of us ++ rest) 0)) (drop_more ahead n d more) in
       rw parts (refused_misplaced (before taken ahead n) after _ place here none)
 
   unfinished : (at : ℕ) → n ≡ length ahead → rest ≡ [] → IsFirstLarge (before taken ahead n) None
-      → (0 < length (before taken ahead n) → IsPlaceOf (before taken ahead n) (length (before taken ahead n) - 1) at)
-      → IsFirstRefusalAtPlace (taken ++ ts) Unfinished at
+      → (0 < length (before taken ahead n) → IsPositionOf (before taken ahead n) (length (before taken ahead n) - 1) at)
+      → IsFirstRefusalAtPosition (taken ++ ts) Unfinished at
   unfinished at all end none place =
       let past : length ahead ≤ n = omega (arith, all) in
       let nothing : map lexeme_of (drop n ahead) ++ rest ≡ [] = rw (drop_all n ahead past, end) refl in

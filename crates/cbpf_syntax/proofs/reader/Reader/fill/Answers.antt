@@ -16,13 +16,6 @@ kept g c =
     rw (c.truncate.ensures.items, c.copy_within.ensures.items, c.len.ensures) (kept_paste c.self.inside.ahead.items
     c.self.inside.at c.self.inside.ahead.len size (rw (← size) at c.self.invariant.0))
 
-pub returns-in-Err-clause-fault : goal.returns-in-Err-clause-fault
-returns-in-Err-clause-fault g c =
-    let s = c.self.inside in
-    let same = sym (kept g (goal.at.returns-in-Err-clause-fault g c).After-truncate) in
-    rw (← c.self.view_is) (λ taken r. c.in-Err.ensures.fault taken (subst (λ (us : List declared_lexeme.Lexeme).
-    AreLexemesTo s.text.now s.lexer.at (taken ++ map lexeme_of us)) same r.read))
-
 pub returns-in-Ok-clause-reading : goal.returns-in-Ok-clause-reading
 returns-in-Ok-clause-reading g c =
     let s = c.self.inside in

@@ -1,5 +1,5 @@
 use Rattle.std.proofs.Common.{refl, ◌∙◌, subst, append_assoc, map, drop}
-use Rattle.std.proofs.lemmas.Result.{on_ok_weaker, IfErr-weaker}
+use Rattle.std.proofs.lemmas.Result.{on_ok_weaker}
 use Rattle.cbpf_syntax.specs.Lexemes.{lexemes_of, AreLexemes}
 use Rattle.cbpf_syntax.specs.Views.{lexeme_of}
 use Rattle.cbpf_syntax.proofs.Taking.{ahead_is}
@@ -21,6 +21,5 @@ returns-clause-lexed g c =
     (rw c.copied-rest.ensures at c.read_on.ensures.lexed))
 
 pub returns-clause-fault : goal.returns-clause-fault
-returns-clause-fault g c = rw (← c.self.view_is)
-    (IfErr-weaker c.read_on.result _ _ (λ fault bad n r. (rw c.self.invariant.1 at bad) r.read.tokens r.read.lexed)
-    (rw c.copied-rest.ensures at c.read_on.ensures.fault))
+returns-clause-fault g c =
+    rw (← c.self.view_is) (rw c.self.invariant.1 at (rw c.copied-rest.ensures at c.read_on.ensures.fault))

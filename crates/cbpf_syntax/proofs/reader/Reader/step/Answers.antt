@@ -13,8 +13,7 @@ pub returns-in_err-fill-clause-fault : goal.returns-in_err-fill-clause-fault
 returns-in_err-fill-clause-fault g c =
     let p = err_from_is_err_and c.from_residual.result c.from_residual.ensures.1 in
     let inv = c.loop-self.invariant in
-    rw (p.1, p.2) (λ n r. subst (λ (t : List ℕ). IsLexFault t c.in_err-fill.field-0.0) inv.text
-    (c.in_err-fill.ensures.fault n (inv.reading n r)))
+    rw (p.1, p.2) (subst (λ (t : List ℕ). IsLexFault t c.in_err-fill.field-0.0) inv.text c.in_err-fill.ensures.fault)
 
 pub returns-in_err-fill-clause-reads_on : goal.returns-in_err-fill-clause-reads_on
 returns-in_err-fill-clause-reads_on g c =
