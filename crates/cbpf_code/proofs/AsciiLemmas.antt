@@ -11,7 +11,7 @@ use Rattle.std.proofs.lemmas.Str.{IsAscii-append, IsUtf8-from_ascii}
 use Rattle.std.proofs.lemmas.Str.Ascii.{IsAscii-nil, IsAscii-cons}
 use Rattle.cbpf_code.specs.Extension.{ext_at, ext_name}
 use Rattle.cbpf_code.specs.Listing.{head, immediate_operand, line_text, operand_text}
-use Rattle.cbpf_code.specs.Listing.{operation_text, offset_or_name, targets, insn_text}
+use Rattle.cbpf_code.specs.Listing.{operation_text, offset_or_name, targets_text, insn_text}
 use Rattle.cbpf_code.specs.Opcode.{op_of}
 use Rattle.cbpf_code.specs.Syntax.{Operand, mnemonic_of, operand_of}
 use Rattle.cbpf_code.specs.Syntax.Operand.{Bare, X, A, Length, Immediate, Absolute, Indexed, Memory, Header, Label}
@@ -95,7 +95,7 @@ in_absolute None k = with_one (codes " [") k (codes "]") (plain (codes " [") ref
 in_absolute (Some e) k =
     IsAscii-append (codes " ") _ (plain (codes " ") refl) (IsAscii-append (ext_name e) [] (in_name e) IsAscii-nil)
 
-in_targets : (i : ℕ) (insn : Insn) → IsAscii (targets i insn)
+in_targets : (i : ℕ) (insn : Insn) → IsAscii (targets_text i insn)
 in_targets i insn =
     IsAscii-append (codes ", l") _ (plain (codes ", l") refl)
     (IsAscii-append (decimal (i + 1 + insn.jt)) _ (in_decimal _)
@@ -113,8 +113,8 @@ in_operand Memory i insn = with_one (codes " M[") insn.k (codes "]") (plain (cod
 in_operand Header i insn = with_one (codes " 4*([") insn.k (codes "]&0xf)") (plain (codes " 4*([") refl) (plain (codes "]&0xf)") refl)
 in_operand Label i insn = with_one (codes " l") (i + 1 + insn.k) [] (plain (codes " l") refl) IsAscii-nil
 in_operand ImmediateTwo i insn =
-    IsAscii-append (immediate_operand insn.k) (targets i insn) (in_immediate insn.k) (in_targets i insn)
-in_operand XTwo i insn = IsAscii-append (codes " x") (targets i insn) (plain (codes " x") refl) (in_targets i insn)
+    IsAscii-append (immediate_operand insn.k) (targets_text i insn) (in_immediate insn.k) (in_targets i insn)
+in_operand XTwo i insn = IsAscii-append (codes " x") (targets_text i insn) (plain (codes " x") refl) (in_targets i insn)
 
 mnemonic_is : (o : Op) → is_ascii (mnemonic_of o) ≡ true
 mnemonic_is (op.LdAbs size) = sized size

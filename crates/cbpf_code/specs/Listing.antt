@@ -30,8 +30,8 @@ offset_or_name None k = with_number (codes " [") k (codes "]")
 offset_or_name (Some e) k = concat (codes " " ∷ ext_name e ∷ [])
 
 -- the targets of the conditional jump at an index: where it holds, and where it doesn't
-abbrev pub targets : ℕ → Insn → List ℕ
-targets i insn = concat (codes ", l" ∷ decimal (i + 1 + insn.jt) ∷ codes ", l" ∷ decimal (i + 1 + insn.jf) ∷ [])
+abbrev pub targets_text : ℕ → Insn → List ℕ
+targets_text i insn = concat (codes ", l" ∷ decimal (i + 1 + insn.jt) ∷ codes ", l" ∷ decimal (i + 1 + insn.jf) ∷ [])
 
 -- what stands after the mnemonic of the instruction at an index
 abbrev pub operand_text : Operand → ℕ → Insn → List ℕ
@@ -45,8 +45,8 @@ operand_text Indexed i insn = with_number (codes " [x + ") insn.k (codes "]")
 operand_text Memory i insn = with_number (codes " M[") insn.k (codes "]")
 operand_text Header i insn = with_number (codes " 4*([") insn.k (codes "]&0xf)")
 operand_text Label i insn = with_number (codes " l") (i + 1 + insn.k) []
-operand_text ImmediateTwo i insn = immediate_operand insn.k ++ targets i insn
-operand_text XTwo i insn = codes " x" ++ targets i insn
+operand_text ImmediateTwo i insn = immediate_operand insn.k ++ targets_text i insn
+operand_text XTwo i insn = codes " x" ++ targets_text i insn
 
 -- the instruction at an index, of this operation
 abbrev pub operation_text : ℕ → Insn → Op → List ℕ

@@ -37,7 +37,7 @@ fn prepend_between(line: &mut Line, before: &[u8], n: u64, after: &[u8])
 #[inline(always)]
 fn prepend_targets(line: &mut Line, i: u32, insn: Insn)
     requires room { length line.old + 46 ≤ LINE_SIZE }
-    ensures text { line.new ≡ spec.targets i insn ++ line.old }
+    ensures text { line.new ≡ spec.targets_text i insn ++ line.old }
     ensures grown { length line.new ≤ length line.old + 46 }
 {
     let next = u64::from(i) + 1;

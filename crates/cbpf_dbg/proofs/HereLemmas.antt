@@ -26,7 +26,7 @@ use Rattle.cbpf_dbg.specs.declared.cursor.Cursor.{Cursor}
 use Rattle.cbpf_dbg.specs.Breakpoints.{Breakpoints}
 use Rattle.cbpf_dbg.specs.Cursor.{Stands, entry_here}
 use Rattle.cbpf_dbg.specs.Joined.{Entry, entries_from, packet_entries, joined_from, joined, entries_after, stops_after, is_hit, stop_at}
-use Rattle.cbpf_dbg.specs.View.{View, start}
+use Rattle.cbpf_dbg.specs.View.{View, first_place}
 use Rattle.cbpf_dbg.specs.Commands.{Answer, reply_of, view_after, run, run_in, run_to, run_out, within_limit, stopped}
 use Rattle.cbpf_dbg.specs.Commands.{finished, limited, step, step_in, step_to, entry_in, back_place, back_at, steps_of, last_place, run_to_end}
 use Rattle.cbpf_dbg.specs.Here.{stop_of, entry_of, stop_here, CanReturn, RunStopsHere, StepStopsHere}
@@ -270,5 +270,5 @@ module _ (machine : Machine) (c : Savefile) (old new : View) (h : HasLoaded mach
   pub end-returns : (g : List Stop) → new ≡ view_after old (run_to_end old)
       → g ≡ f ++ stops_after machine c.records old.breakpoints old.place → All (CanReturn old) f → All (CanReturn new) g
   end-returns g after found all =
-      let moves : new ≡ record old { place = start; origin = 1 } = after ∙ rw (h.program, h.capture) refl in
-      rw found (more-return start 1 (stops_after machine c.records old.breakpoints old.place) [] moves (sym (append-nil _)) all)
+      let moves : new ≡ record old { place = first_place; origin = 1 } = after ∙ rw (h.program, h.capture) refl in
+      rw found (more-return first_place 1 (stops_after machine c.records old.breakpoints old.place) [] moves (sym (append-nil _)) all)

@@ -1,3 +1,4 @@
+pub mod BreakpointLemmas
 pub mod JoinedLemmas
 pub mod CountLemmas
 pub mod CursorLemmas

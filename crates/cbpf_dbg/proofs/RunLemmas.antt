@@ -14,7 +14,7 @@ use Rattle.cbpf_reply.specs.declared.reply.RunReply.TheVariants.{Stopped, Limit,
 use Rattle.cbpf_reply.specs.Places.{is_before}
 use Rattle.cbpf_dbg.specs.declared.cursor.Cursor.{Cursor}
 use Rattle.cbpf_dbg.specs.Joined.{Entry, joined, entries_after, is_hit, stops_of, stops_after, counts, stop_at}
-use Rattle.cbpf_dbg.specs.View.{View, start}
+use Rattle.cbpf_dbg.specs.View.{View, first_place}
 use Rattle.cbpf_dbg.specs.Commands.{run_to, run_out, within_limit, finished, limited}
 use Rattle.cbpf_dbg.specs.Cursor.{Stands, view_at, entry_here, RepliesBy, run_from, step_from, ComesTo}
 use Rattle.cbpf_dbg.specs.Cursor.{owed}
@@ -115,7 +115,7 @@ module _ (machine : Machine) (c : Savefile) (breakpoints : Breakpoints) (limit :
       )
 
   pub run_finished : (w1 w2 : Cursor) → Stands machine c.records w1 → w1.origin ≡ w0.origin
-      → ComesTo machine c.records breakpoints end w0 None w1 → length c.records < end → w2.place ≡ start
+      → ComesTo machine c.records breakpoints end w0 None w1 → length c.records < end → w2.place ≡ first_place
       → w2.origin ≡ 1 → RepliesBy machine c breakpoints (run_from machine c.records limit) w0 w2 (Finished w1.counts)
   run_finished w1 w2 stands origin comes past place2 origin2 =
       let none = none_ahead w1 comes past in
@@ -152,7 +152,7 @@ module _ (machine : Machine) (c : Savefile) (breakpoints : Breakpoints) (n : ℕ
       record { reply_is = rw (sought, is) refl; place_is = rw sought refl; origin_is = rw sought origin }
 
   pub step_finished : (w1 w2 : Cursor) → slice_get (entries_after machine c.records w0.place) (n - 1) ≡ None
-      → Stands machine c.records w1 → w1.origin ≡ w0.origin → w1.place.packet ≡ length c.records + 1 → w2.place ≡ start
+      → Stands machine c.records w1 → w1.origin ≡ w0.origin → w1.place.packet ≡ length c.records + 1 → w2.place ≡ first_place
       → w2.origin ≡ 1 → RepliesBy machine c breakpoints (step_from machine c.records n) w0 w2 (Finished w1.counts)
   step_finished w1 w2 sought stands origin end place2 origin2 =
       let counted : w1.counts ≡ counts machine c.records w0.origin (length c.records + 1) =

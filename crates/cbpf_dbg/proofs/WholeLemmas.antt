@@ -15,7 +15,7 @@ use Rattle.cbpf_reply.specs.declared.reply.Counts.{Counts}
 use Rattle.cbpf_reply.specs.Places.{is_before}
 use Rattle.cbpf_dbg.specs.Joined.{joined, entries_after, stops_of, stops_in, stops_after}
 use Rattle.cbpf_dbg.specs.Joined.{place_before, turns_between, turns_to_end, counts}
-use Rattle.cbpf_dbg.specs.View.{View, start}
+use Rattle.cbpf_dbg.specs.View.{View, first_place}
 use Rattle.cbpf_dbg.specs.Commands.{reply_of, view_after, run, run_to_end, stops, all_stops, Found, last_place}
 use Rattle.cbpf_dbg.specs.Commands.{turns_forward, turns_left, Continues, stopped, finished}
 use Rattle.cbpf_dbg.proofs.TurnCountLemmas.{turns-fewer, few_after}
@@ -84,23 +84,23 @@ turns-rest machine c v stop left e =
     (after_is v.place stop.place (rest-head machine c.records v.breakpoints v.place stop left e)) in omega (arith, fewer)
 
 -- from the start all hits are ahead
-ahead-start : (machine : Machine) (capture : List Record) → entries_after machine capture start ≡ joined machine capture
+ahead-start : (machine : Machine) (capture : List Record) → entries_after machine capture first_place ≡ joined machine capture
 unfolding joined
 ahead-start machine [] = refl
 ahead-start machine (r ∷ more) = ahead-in machine (r ∷ more) 1 0 r (omega arith) refl
 
 rest-start : (machine : Machine) (capture : List Record) (breakpoints : Breakpoints)
-    → stops_after machine capture breakpoints start ≡ stops_in machine capture breakpoints
+    → stops_after machine capture breakpoints first_place ≡ stops_in machine capture breakpoints
 rest-start machine capture breakpoints = ap (stops_of breakpoints) (ahead-start machine capture)
 
 from_start-held : (program : Option (List Insn)) (capture : Option Savefile) (v : View) → v.program ≡ program
-    → v.capture ≡ capture → v.place ≡ start → stops v ≡ all_stops v
+    → v.capture ≡ capture → v.place ≡ first_place → stops v ≡ all_stops v
 from_start-held None capture v p c e = rw p refl
 from_start-held (Some list) None v p c e = rw (p, c) refl
 from_start-held (Some list) (Some s) v p c e =
     rw (p, c, e) (ap Ok (rest-start (machine_of list v.values) s.records v.breakpoints))
 
-pub from_start : (v : View) → v.place ≡ start → stops v ≡ all_stops v
+pub from_start : (v : View) → v.place ≡ first_place → stops v ≡ all_stops v
 from_start v e = from_start-held v.program v.capture v refl refl e
 
 -- how far runs from a view have come
@@ -177,7 +177,7 @@ module _ (machine : Machine) (c : Savefile) (old v : View) (f g : List Stop) (m 
         × (g ≡ f ++ stops_after machine c.records old.breakpoints old.place)
     going-end reply after =
         let ran = run-last machine c v h.new_holds none in
-        let there : new ≡ record v { place = start; origin = 1 } = after ∙ ap (view_after v) ran in
+        let there : new ≡ record v { place = first_place; origin = 1 } = after ∙ ap (view_after v) ran in
         let answered : Ok (Finished counted) ≡ Ok (Finished (counts machine c.records v.origin (length c.records + 1))) =
         reply ∙ ap reply_of ran in
         let all : counted ≡ counts machine c.records old.origin (length c.records + 1) =

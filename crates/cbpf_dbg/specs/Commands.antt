@@ -27,8 +27,8 @@ use Rattle.cbpf_reply.specs.declared.reply.RunReply.TheVariants.{Stopped, Limit,
 use Rattle.cbpf_reply.specs.declared.reply.SessionFault.{SessionFault}
 use Rattle.cbpf_reply.specs.declared.reply.SessionFault.TheVariants as fault
 use Rattle.cbpf_dbg.specs.Joined.{Entry, entries_after, stops_in, stops_after, stop_at, counts, turns_between, turns_to_end}
-use Rattle.indexmap.specs.IndexMap.{insert_entry, shift_remove_entry}
-use Rattle.cbpf_dbg.specs.View.{View, start}
+use Rattle.cbpf_dbg.specs.Breakpoints.{with_breakpoint, without_breakpoint}
+use Rattle.cbpf_dbg.specs.View.{View, first_place}
 
 -- a reply with the view after it, or a refusal, which leaves the view
 abbrev pub Answer : Type 0 → Type 0
@@ -61,7 +61,7 @@ stopped m stop = (Stopped stop, record m { place = stop.place })
 -- the counts up to the capture's end, and back to the start, from where it counts then
 abbrev pub finished : View → Machine → List Record → RunReply × View
 finished m machine capture =
-    (Finished (counts machine capture m.origin (length capture + 1)), record m { place = start; origin = 1 })
+    (Finished (counts machine capture m.origin (length capture + 1)), record m { place = first_place; origin = 1 })
 
 abbrev pub limited : View → Machine → List Record → ℕ → RunReply × View
 limited m machine capture next =
@@ -204,7 +204,7 @@ pub record Continues (old new : View) (reply : RunReply) : Type 0 where
 -- and counts from there then.
 abbrev pub run_to_end : View → Answer Counts
 run_to_end m = where_loaded m (λ machine capture.
-    Ok (counts machine capture m.origin (length capture + 1), record m { place = start; origin = 1 }))
+    Ok (counts machine capture m.origin (length capture + 1), record m { place = first_place; origin = 1 }))
 
 -- all stops, from the start
 abbrev pub all_stops : View → Result (List Stop) SessionFault
@@ -230,11 +230,11 @@ pub record Found (old new : View) (old_found new_found : List Stop) : Type 0 whe
 
 -- a program: the breakpoints are gone, and the values stay
 abbrev pub with_program_loaded : View → List Insn → View
-with_program_loaded m list = record m { program = Some list; breakpoints = []; place = start; origin = 1 }
+with_program_loaded m list = record m { program = Some list; breakpoints = []; place = first_place; origin = 1 }
 
 -- a capture: the breakpoints and the values stay
 abbrev pub with_capture_loaded : View → Savefile → View
-with_capture_loaded m c = record m { capture = Some c; place = start; origin = 1 }
+with_capture_loaded m c = record m { capture = Some c; place = first_place; origin = 1 }
 
 -- a value for an extension: the place's packet begins anew, and is the first that counts
 abbrev pub with_value_set : View → Ext → ℕ → View
@@ -253,20 +253,20 @@ abbrev pub at_instruction : {R : Type 0} → Option (List Insn) → ℕ → Resu
 at_instruction None n answer = Err fault.NoProgram
 at_instruction (Some list) n answer = if nat_lt n (length list) then answer else Err fault.NoInstruction
 
--- a breakpoint goes last; one that is set keeps its place and takes the condition
+-- a breakpoint with a condition, at an instruction of the program
 abbrev pub breakpoint_when : View → ℕ → When → Answer (Unit {0})
 breakpoint_when m n when =
-    at_instruction m.program n (Ok (tt, record m { breakpoints = insert_entry nat_eq m.breakpoints n when }))
+    at_instruction m.program n (Ok (tt, record m { breakpoints = with_breakpoint m.breakpoints n when }))
 
 -- one without a condition
 abbrev pub breakpoint : View → ℕ → Answer (Unit {0})
 breakpoint m n = breakpoint_when m n Always
 
--- whether it was set; the others keep their order
+-- whether it was set, and the breakpoints without it
 abbrev pub delete : View → ℕ → Answer Bool
 delete m n = at_instruction m.program n (Ok (
   is_some (lookup (nat_eq n) m.breakpoints),
-  record m { breakpoints = shift_remove_entry (nat_eq n) m.breakpoints },
+  record m { breakpoints = without_breakpoint m.breakpoints n },
 ))
 
 abbrev pub without_breakpoints : View → View

@@ -17,7 +17,7 @@ use Rattle.cbpf_reply.specs.declared.reply.Place.{Place}
 use Rattle.cbpf_dbg.specs.declared.cursor.Cursor.{Cursor}
 use Rattle.cbpf_dbg.specs.Breakpoints.{Breakpoints, carries}
 use Rattle.cbpf_dbg.specs.Joined.{asks}
-use Rattle.cbpf_dbg.specs.View.{start}
+use Rattle.cbpf_dbg.specs.View.{first_place}
 use Rattle.cbpf_dbg.specs.Cursor.{Stands}
 
 -- a trail stands for the entries of the place's packet up to its step
@@ -41,7 +41,7 @@ abbrev pub Fits : (List Registers → Type 0) → Option (List Insn) → Values 
 Fits stands_for (Some list) values (Some c) w =
     Stands (machine_of list values) c.records w × Keeps stands_for (machine_of list values) c.records w.place
     × IsInside c.records w.place × StartsAt c.records w.place.packet w.start
-Fits stands_for _ values _ w = (w.place ≡ start) × (w.origin ≡ 1)
+Fits stands_for _ values _ w = (w.place ≡ first_place) × (w.origin ≡ 1)
 
 -- no turn of a machine asks for an extension that has no value
 abbrev pub NeedsNoValue : Machine → Type 0

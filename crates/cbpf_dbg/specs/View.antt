@@ -17,10 +17,10 @@ pub record View : Type 0 where
   pub place : Place
 
 -- before the first packet
-abbrev pub start : Place
-start = record { packet = 1; step = 0 }
+abbrev pub first_place : Place
+first_place = record { packet = 1; step = 0 }
 
 -- a new session: nothing is loaded or set
 abbrev pub empty_view : View
 empty_view =
-    record { program = None; values = no_values; capture = None; breakpoints = []; origin = 1; place = start }
+    record { program = None; values = no_values; capture = None; breakpoints = []; origin = 1; place = first_place }

@@ -39,7 +39,7 @@ pub enum Lead {
     Other,
 }
 
-// Each byte has a letter at its place: of a blank, a comment, a digit, a hash, a letter, a mark or a slash, and
+// Each byte has a letter at its index: of a blank, a comment, a digit, a hash, a letter, a mark or a slash, and
 // a dot for any other.
 static LEADS: [u8; 256] = *b"\
     .........BB..B..................\

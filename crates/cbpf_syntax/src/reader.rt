@@ -157,8 +157,9 @@ pub struct Reader<'a, A: Allocator> {
 }
 
 impl<'a, A: Allocator> Model for Reader<'a, A> {
-    ghost use Rattle.std.specs.Prelude.{◌≡◌, ◌≤◌, length, drop};
-    ghost use Rattle.cbpf_syntax.specs.Ahead.{Ahead};
+    ghost use Rattle.std.specs.Prelude.{◌≡◌, ◌≤◌, length, drop, List};
+    ghost use Rattle.cbpf_syntax.specs.Lexemes as lexemes;
+    ghost use Rattle.cbpf_syntax.specs.Ahead.{Ahead, HasTaken};
 
     ghost Value = { Ahead };
 
@@ -171,8 +172,16 @@ impl<'a, A: Allocator> Model for Reader<'a, A> {
       large = r.large;
     } };
 
+    // Some tokens were taken, and these and those ahead are the text's up to where it was read.
     ghost invariant = { λ r. (r.at ≤ length r.ahead.items) × (r.lexer.text ≡ r.text.now) ×
-        (r.lexer.at ≤ length r.text.now) };
+        (r.lexer.at ≤ length r.text.now) × ((taken : List lexemes.Lexeme) × HasTaken taken (record {
+          text = r.text.now;
+          to = r.lexer.at;
+          tokens = drop r.at r.ahead.items;
+          ended = r.ended;
+          last = r.last;
+          large = r.large;
+        })) };
 }
 
 impl<'a, A: Allocator> Reader<'a, A> {

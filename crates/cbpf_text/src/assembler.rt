@@ -13,7 +13,7 @@ ghost use Rattle.cbpf_syntax.specs.Items.{HasForm};
 use crate::draft::{Draft, read};
 use crate::encode::encode_all;
 use crate::fault::{AsmFault, AsmKind};
-use crate::placed_fault::fault_on_line;
+use crate::fault_at::fault_on_line;
 use cbpf_code::Insn;
 use std::alloc::Allocator;
 

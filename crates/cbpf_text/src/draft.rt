@@ -14,10 +14,10 @@ ghost use Rattle.cbpf_text.specs.Drafts.{IsStatement, IsDraft, AreTargets, AreSe
 ghost use Rattle.cbpf_text.specs.Refusals.{IsRefused};
 
 use crate::fault::{AsmFault, AsmKind, syntax_fault};
+use crate::fault_at::fault_on_line;
 use crate::labels::Labels;
 use crate::name::{Name, name_of};
 use crate::operand::value_at;
-use crate::placed_fault::fault_on_line;
 use crate::source::asm_fault;
 use cbpf_code::{MAX_INSTRUCTIONS, code_of};
 use cbpf_syntax::{Class, Fields, Lexeme, Reader, Row, Step};

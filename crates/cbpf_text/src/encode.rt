@@ -13,8 +13,8 @@ ghost use Rattle.cbpf_syntax.specs.Items.{HasForm};
 
 use crate::draft::{Statement, Target};
 use crate::fault::{AsmFault, AsmKind};
+use crate::fault_at::{FaultAt, fault_on_line};
 use crate::labels::LabelTable;
-use crate::placed_fault::{PlacedFault, fault_on_line};
 use cbpf_code::Insn;
 use cbpf_syntax::Fields;
 use std::alloc::Allocator;
@@ -29,7 +29,7 @@ fn offset<A: Allocator>(
     index: u32,
     short: bool,
     target: &Target<'_>,
-) -> Result<u32, PlacedFault>
+) -> Result<u32, FaultAt>
     ensures answer { (ls : List (lexemes.Lexeme × ℕ)) → Resolves ls (λ k. get same_name labels.now k) →
         (label : lexemes.Lexeme) → KeepsLabel target.now label →
         IsAnswer (use_fault ls (record { index = index; target = label; conditional = short }))
@@ -54,7 +54,7 @@ fn encode<A: Allocator>(
     labels: &LabelTable<'_, A>,
     index: u32,
     statement: &Statement<'_>,
-) -> Result<Insn, PlacedFault>
+) -> Result<Insn, FaultAt>
     ensures { (ls : List (lexemes.Lexeme × ℕ)) (item : items.Item) → IsStatement statement.now item → HasForm item →
         Resolves ls (λ k. get same_name labels.now k) →
         IsAnswer (uses_fault ls (uses_of index item)) (insn_of ls index item) result }

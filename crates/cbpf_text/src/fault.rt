@@ -4,7 +4,7 @@ ghost use Rattle.std.specs.Prelude.{◌≡◌, ℕ};
 ghost use Rattle.cbpf_syntax.specs.Refusals.{ParseFault, reported_at};
 ghost use Rattle.cbpf_text.specs.Refusals.{bad_piece_kind, grammar_kind};
 
-use crate::placed_fault::PlacedFault;
+use crate::fault_at::FaultAt;
 use cbpf_syntax::{BadPiece, SyntaxFault};
 use std::alloc::{AllocError, AllocFailed};
 use thiserror::Error;
@@ -59,7 +59,7 @@ pub(crate) fn bad_piece_kind(bad: BadPiece) -> AsmKind
 }
 
 /// What a refusal of the grammar is reported as.
-pub(crate) fn syntax_fault(refused: SyntaxFault) -> PlacedFault
+pub(crate) fn syntax_fault(refused: SyntaxFault) -> FaultAt
     ensures { (fault : ParseFault) (at : ℕ) → refused ≡ reported_at fault at → result ≡ (grammar_kind fault, at) }
 {
     match refused {

@@ -11,11 +11,11 @@ mod draft;
 mod encode;
 mod equality;
 mod fault;
+mod fault_at;
 mod labels;
 mod law;
 mod name;
 mod operand;
-mod placed_fault;
 mod round_trip;
 mod source;
 

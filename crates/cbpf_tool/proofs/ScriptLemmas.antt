@@ -16,13 +16,36 @@ use Rattle.cbpf_dbg.specs.View.{View, empty_view}
 use Rattle.cbpf_tool.specs.LineReader.{unread as unread_bytes, Took, TakesLine}
 use Rattle.cbpf_tool.specs.Replies.{Reply, LineReplies, own, unheld, unread}
 use Rattle.cbpf_tool.specs.Output.{Output, at_end, at_quit, at_line, HasQuit}
-use Rattle.cbpf_tool.specs.Progress.{LineRan, EachPlain, Progress}
+use Rattle.cbpf_tool.specs.Progress.{LineRan, Kept}
 use Rattle.cbpf_tool.specs.Debugged.{Printed, Faulted, Finished}
 use Rattle.cbpf_tool.specs.declared.fault.ToolFault.{ToolFault}
 use Rattle.cbpf_tool.specs.declared.fault.ToolFault.TheVariants.{Source as RefusedSource, Read, Write, Memory}
 use Rattle.cbpf_tool.specs.declared.line_reader.LineEnd.{LineEnd}
 use Rattle.cbpf_tool.specs.declared.line_reader.LineEnd.TheVariants.{Newline, Input}
 use Rattle.cbpf_tool.specs.declared.debugger.AfterLine.TheVariants.{NextLine, Quit}
+
+-- none of the lines has a newline
+abbrev pub EachPlain : List (List ℕ) → Type 0
+EachPlain [] = Unit {0}
+EachPlain (l ∷ ls) = (has_newline l ≡ false) × EachPlain ls
+
+-- the first lines of a script were run from a debugger that has loaded nothing, and none of them is `quit`: `text` is
+-- their replies, which were written, and the view is now `m`
+pub record Progress (script pending : List ℕ) (left old new : Option (List ℕ)) (f g : FileSource) (m : View) :
+    Type 0 where
+  pub done : List (List ℕ)
+  pub text : List ℕ
+  pub rest : List ℕ
+  pub split : script ≡ unlines done ++ rest
+  pub plain : EachPlain done
+  -- what was read and not yet taken, and what the reader has left
+  pub known : unread_bytes pending left ≡ Some rest
+  pub kept : Kept f g
+  pub no_quit : ¬ HasQuit done
+  -- the output of more lines comes after the text
+  pub ran : (ls : List (List ℕ)) (t : List ℕ) (h : ℕ) → Output (LineReplies f.held) m g.failures ls t h
+      → Output (LineReplies f.held) empty_view f.failures (done ++ ls) (text ++ t) h
+  pub wrote : Appended old new text
 
 lines-plain : (l bs : List ℕ) → has_newline l ≡ false → lines (l ++ 10 ∷ bs) ≡ l ∷ lines bs
 lines-plain [] bs h = refl

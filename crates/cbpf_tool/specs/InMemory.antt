@@ -11,15 +11,13 @@ pub record InMemory : Type 0 where
   pub failures : ℕ
   pub failing : ℕ
 
--- an encoding of the files
-abbrev files_code : Coded FileMap
-files_code = map.code (coded_list coded_ℕ) (coded_list coded_ℕ)
-
 -- files in memory are encoded as the tuple of their fields. The toolchain asks for an encoding of a type that another
 -- one is seen as; no clause rests on it
 abbrev pub in_memory_code : Coded InMemory
 in_memory_code =
-    code_by ((FileMap × ℕ) × ℕ) (coded× (coded× files_code coded_ℕ) coded_ℕ) (λ m. ((m.files, m.failures), m.failing))
+    code_by ((FileMap × ℕ) × ℕ)
+    (coded× (coded× (map.code (coded_list coded_ℕ) (coded_list coded_ℕ)) coded_ℕ) coded_ℕ)
+    (λ m. ((m.files, m.failures), m.failing))
     (λ p. record { files = p.0.0; failures = p.0.1; failing = p.1 }) (λ _. refl)
 
 -- files in memory say what they hold

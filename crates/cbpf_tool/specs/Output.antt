@@ -8,15 +8,15 @@ use Rattle.cbpf_dbg.specs.View.{View}
 use Rattle.cbpf_tool.specs.Replies.{Reply}
 
 -- the text of the replies to some lines, from the view of the session before them, while the count of failures goes from
--- one number to another; `Replies` says which replies a line can have
-pub data Output (Replies : View → ℕ → ℕ → Result (Option Command) CommandFault → Reply → Type 0)
+-- one number to another; `CanReply` says which replies a line can have
+pub data Output (CanReply : View → ℕ → ℕ → Result (Option Command) CommandFault → Reply → Type 0)
     : View → ℕ → List (List ℕ) → List ℕ → ℕ → Type 0 where
-  at_end : {m : View} {f : ℕ} → Output Replies m f [] [] f
+  at_end : {m : View} {f : ℕ} → Output CanReply m f [] [] f
   at_quit : {m : View} {f : ℕ} (l : List ℕ) (ls : List (List ℕ)) → command_of l ≡ Ok (Some Quit)
-      → Output Replies m f (l ∷ ls) [] f
+      → Output CanReply m f (l ∷ ls) [] f
   at_line : {m : View} {f g h : ℕ} {rest : List ℕ} {ls : List (List ℕ)} (l : List ℕ) (reply : Reply)
-      → Replies m f g (command_of l) reply → Output Replies reply.1 g ls rest h
-      → Output Replies m f (l ∷ ls) (reply.0 ++ rest) h
+      → CanReply m f g (command_of l) reply → Output CanReply reply.1 g ls rest h
+      → Output CanReply m f (l ∷ ls) (reply.0 ++ rest) h
 
 -- one of the lines is `quit`
 abbrev pub HasQuit : List (List ℕ) → Type 0

@@ -1,15 +1,12 @@
--- How far a script was run. No public clause names it.
-use Rattle.std.specs.Prelude.{◌≡◌, ◌⊎◌, ℕ, false, IsTrue, List, [], ◌∷◌, ◌++◌, Option, Some, Result, Ok, Err}
+-- What a line of a script did that was run. No public clause names it.
+use Rattle.std.specs.Prelude.{◌≡◌, ◌⊎◌, ℕ, IsTrue, List, [], Option, Some, Result, Ok, Err}
 use Rattle.cbpf_code.specs.Writing.{Appended, AppendedPart}
 use Rattle.cbpf_code.specs.declared.writing.WriteFault.{WriteFault}
 use Rattle.cbpf_tool.specs.declared.command.Command.{Command}
 use Rattle.cbpf_tool.specs.declared.command.Command.TheVariants as command
 use Rattle.cbpf_reply.specs.declared.errors.CommandFault.{CommandFault}
 use Rattle.cbpf_tool.specs.FileMap.{Held, FileSource}
-use Rattle.cbpf_tool.specs.Lines.{has_newline, unlines}
-use Rattle.cbpf_dbg.specs.View.{View, empty_view}
-use Rattle.cbpf_tool.specs.LineReader.{unread}
-use Rattle.cbpf_tool.specs.Output.{Output, HasQuit}
+use Rattle.cbpf_dbg.specs.View.{View}
 use Rattle.cbpf_tool.specs.Replies.{Reply, LineReplies, CanRunOut}
 use Rattle.cbpf_tool.specs.SessionReplies.{reply_to}
 use Rattle.cbpf_tool.specs.declared.command.SessionCommand.{SessionCommand}
@@ -56,25 +53,3 @@ abbrev pub LineRan : FileSource → FileSource → View → View → Result (Opt
     → Option (List ℕ) → Result AfterLine WriteFault → Type 0
 LineRan f g m n said old new r =
     Kept f g × (IsTrue f.is_known → LineResult f.held m n f.failures g.failures said old new r)
-
-abbrev pub EachPlain : List (List ℕ) → Type 0
-EachPlain [] = Unit {0}
-EachPlain (l ∷ ls) = (has_newline l ≡ false) × EachPlain ls
-
--- the first lines of a script were run from a debugger that has loaded nothing, and none of them is `quit`: `text` is
--- their replies, which were written, and the view is now `m`
-pub record Progress (script pending : List ℕ) (left old new : Option (List ℕ)) (f g : FileSource) (m : View) :
-    Type 0 where
-  pub done : List (List ℕ)
-  pub text : List ℕ
-  pub rest : List ℕ
-  pub split : script ≡ unlines done ++ rest
-  pub plain : EachPlain done
-  -- what was read and not yet taken, and what the reader has left
-  pub known : unread pending left ≡ Some rest
-  pub kept : Kept f g
-  pub no_quit : ¬ HasQuit done
-  -- the output of more lines comes after the text
-  pub ran : (ls : List (List ℕ)) (t : List ℕ) (h : ℕ) → Output (LineReplies f.held) m g.failures ls t h
-      → Output (LineReplies f.held) empty_view f.failures (done ++ ls) (text ++ t) h
-  pub wrote : Appended old new text

@@ -146,9 +146,6 @@ ReportsBy old new q (Some name) r = NotOpened old new name r
 
 -- ---- the job
 
-abbrev pub query_by : WhyJob → List Insn → Query
-query_by job p = record { report = job.report; ranges = job.packets.items; machine = machine_of p job.values }
-
 -- `why`: the file of the filter is opened first; where it gives no program, that is all, and else the capture is reported
 -- on
 pub record WhyDone (old new : Hosted) (job : WhyJob) (r : Result (Option Remarks) WhyFailure) : Type 0 where
@@ -156,5 +153,7 @@ pub record WhyDone (old new : Hosted) (job : WhyJob) (r : Result (Option Remarks
   pub filter : Result (List Insn) WhyFailure
   pub opens : OpensFilter old mid (string_bytes job.filter) filter
   pub goes : MatchResult filter
-      (λ p. ReportsBy mid new (query_by job p) (file_name (option_map (λ n. string_bytes n) job.capture)) r)
+      (λ p. ReportsBy mid new
+      (record { report = job.report; ranges = job.packets.items; machine = machine_of p job.values })
+      (file_name (option_map (λ n. string_bytes n) job.capture)) r)
       (λ e. (new ≡ mid) × (r ≡ Err e))

@@ -55,7 +55,7 @@ fn split_once(word: &[u8], sign: u8) -> Option<(&[u8], &[u8])>
 }
 
 /// A number that isn't 0.
-fn packet_number(word: &[u8]) -> Option<u64>
+fn number_of_packet(word: &[u8]) -> Option<u64>
     ensures { result ≡ spec.number_of_packet word.now }
 {
     match number_up_to(word, u64::MAX) {
@@ -81,13 +81,13 @@ fn packet_range(word: &[u8]) -> Option<PacketRange>
 {
     match split_once(word, b'-') {
         None => {
-            let number = packet_number(word)?;
+            let number = number_of_packet(word)?;
             Some(PacketRange {
                 first: number,
                 last: number,
             })
         }
-        Some((first, last)) => range_between(packet_number(first)?, packet_number(last)?),
+        Some((first, last)) => range_between(number_of_packet(first)?, number_of_packet(last)?),
     }
 }
 

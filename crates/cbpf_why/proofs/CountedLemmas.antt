@@ -3,7 +3,7 @@ use Rattle.std.proofs.Common.{◌≡◌, ℕ, ◌+◌, List, [], ◌∷◌, ◌+
 use Rattle.std.specs.Prelude.{Bool, true, false}
 use Rattle.cbpf_why.specs.declared.counted.Counted.{Counted}
 use Rattle.cbpf_why.specs.declared.job.Question.{Question}
-use Rattle.cbpf_why.specs.Groups.{Keeps}
+use Rattle.cbpf_why.specs.Groups.{KeepsAll}
 use Rattle.std.proofs.lemmas.List.Sums.{sum_by_push}
 use Rattle.cbpf_machine.specs.InPlace.{turn_of}
 use Rattle.cbpf_machine.specs.Machine.{Machine}
@@ -62,7 +62,7 @@ module _ {A P : Type 0} (q : Question P) where
   -- a packet more in the groups
   pub took-groups : (old new : Counted A) (records : List Record) (r : Record) → counts_groups q.report ≡ true
       → counts_runs q.report ≡ false → Took q old records → new.tally ≡ old.tally
-      → Keeps new.groups (length q.program.now) (ends_of (machine_in q) records ++ ended (machine_in q) r ∷ [])
+      → KeepsAll new.groups (length q.program.now) (ends_of (machine_in q) records ++ ended (machine_in q) r ∷ [])
       → Took q new (records ++ r ∷ [])
   took-groups old new records r g s t same keeps = record {
     groups = rw (g, ends-more (machine_in q) records r) keeps;
@@ -72,7 +72,7 @@ module _ {A P : Type 0} (q : Question P) where
   -- and in the tally
   pub took-both : (new : Counted A) (records : List Record) (r : Record) → counts_groups q.report ≡ true
       → counts_runs q.report ≡ true
-      → Keeps new.groups (length q.program.now) (ends_of (machine_in q) records ++ ended (machine_in q) r ∷ [])
+      → KeepsAll new.groups (length q.program.now) (ends_of (machine_in q) records ++ ended (machine_in q) r ∷ [])
       → Tallies new.tally (machine_in q) (records ++ r ∷ []) → Took q new (records ++ r ∷ [])
   took-both new records r g s keeps tallies = record {
     groups = rw (g, ends-more (machine_in q) records r) keeps;
@@ -81,7 +81,7 @@ module _ {A P : Type 0} (q : Question P) where
 
   -- what was kept of the records, where it is counted
   pub groups_counted : (c : Counted A) (records : List Record) → counts_groups q.report ≡ true → Took q c records
-      → Keeps c.groups (length q.program.now) (ends_of (machine_in q) records)
+      → KeepsAll c.groups (length q.program.now) (ends_of (machine_in q) records)
   groups_counted c records g t = rw g at t.groups
 
   pub runs_counted : (c : Counted A) (records : List Record) → counts_runs q.report ≡ true → Took q c records
@@ -93,7 +93,7 @@ length-ends m [] = refl
 length-ends m (x ∷ xs) = let rest = length-ends m xs in omega (arith, rest)
 
 -- nothing is counted yet
-pub took-nothing : {A P : Type 0} (q : Question P) (c : Counted A) → Keeps c.groups (length q.program.now) []
+pub took-nothing : {A P : Type 0} (q : Question P) (c : Counted A) → KeepsAll c.groups (length q.program.now) []
     → Tallies c.tally (machine_in q) [] → Took q c []
 took-nothing q c keeps tallies = record {
   groups = rw (none (counts_groups q.report)) keeps;

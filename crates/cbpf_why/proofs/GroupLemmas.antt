@@ -11,7 +11,7 @@ use Rattle.cbpf_why.specs.declared.ended.Verdict.{Verdict}
 use Rattle.cbpf_why.specs.declared.ended.Verdict.TheVariants.{Pass, Fail, Unknown}
 use Rattle.cbpf_why.specs.declared.groups.Group.{Group}
 use Rattle.cbpf_why.specs.Ends.{is_verdict, verdict_of}
-use Rattle.cbpf_why.specs.Groups.{AllKept, AreGroups, Keeps, by_verdict, count_of, is_in_group, group, group_kept, with_one}
+use Rattle.cbpf_why.specs.Groups.{AllKept, AreGroups, KeepsAll, by_verdict, count_of, is_in_group, group, group_kept, with_one}
 
 first_holds : (p : Ended → Bool) (b : Bool) (x : Ended) (ys : List Ended) → p x ≡ b
     → IfSome (slice_get ys 0) (λ e. p e ≡ true) → IfSome (slice_get (if b then x ∷ ys else ys) 0) (λ e. p e ≡ true)
@@ -99,10 +99,10 @@ count-no v ends e h =
     let p = λ (x : Ended). is_verdict v (verdict_of x.reason) in
     sym (length-filter p (ends ++ e ∷ [])) ∙ ap length (filter-no p ends e h) ∙ length-filter p ends
 
-module _ (k : AllKept) (added : List Group) (n : ℕ) (ends : List Ended) (e : Ended) (keeps : Keeps k n ends) where
+module _ (k : AllKept) (added : List Group) (n : ℕ) (ends : List Ended) (e : Ended) (keeps : KeepsAll k n ends) where
   pub keeps_pass : verdict_of e.reason ≡ Pass → AreGroups (ends ++ e ∷ []) (verdict_of e.reason) added
       → length added ≡ length k.passed
-      → Keeps (record k { passed = added; totals = record k.totals { passes = k.totals.passes + 1 } }) n (ends ++ e ∷ [])
+      → KeepsAll (record k { passed = added; totals = record k.totals { passes = k.totals.passes + 1 } }) n (ends ++ e ∷ [])
   keeps_pass is are long = record {
     groups = λ v. elim v as (λ v. AreGroups (ends ++ e ∷ []) v (by_verdict (record k { passed = added }) v)) [
       | Pass ↦ rw is at are
@@ -124,7 +124,7 @@ module _ (k : AllKept) (added : List Group) (n : ℕ) (ends : List Ended) (e : E
 
   pub keeps_fail : verdict_of e.reason ≡ Fail → AreGroups (ends ++ e ∷ []) (verdict_of e.reason) added
       → length added ≡ length k.failed
-      → Keeps (record k { failed = added; totals = record k.totals { fails = k.totals.fails + 1 } }) n (ends ++ e ∷ [])
+      → KeepsAll (record k { failed = added; totals = record k.totals { fails = k.totals.fails + 1 } }) n (ends ++ e ∷ [])
   keeps_fail is are long = record {
     groups = λ v. elim v as (λ v. AreGroups (ends ++ e ∷ []) v (by_verdict (record k { failed = added }) v)) [
       | Pass ↦ groups-others ends e Pass k.passed (rw is refl) (keeps.groups Pass)
@@ -146,7 +146,7 @@ module _ (k : AllKept) (added : List Group) (n : ℕ) (ends : List Ended) (e : E
 
   pub keeps_unknown : verdict_of e.reason ≡ Unknown → AreGroups (ends ++ e ∷ []) (verdict_of e.reason) added
       → length added ≡ length k.unknown
-      → Keeps (record k { unknown = added; totals = record k.totals { unknown = k.totals.unknown + 1 } }) n (ends ++ e ∷ [])
+      → KeepsAll (record k { unknown = added; totals = record k.totals { unknown = k.totals.unknown + 1 } }) n (ends ++ e ∷ [])
   keeps_unknown is are long = record {
     groups = λ v. elim v as (λ v. AreGroups (ends ++ e ∷ []) v (by_verdict (record k { unknown = added }) v)) [
       | Pass ↦ groups-others ends e Pass k.passed (rw is refl) (keeps.groups Pass)
@@ -180,12 +180,12 @@ first_inside ends i n v inside = inside_of (slice_get (group ends i v) 0) (first
     inside_of (Some e) h = at e (e.pc == i) refl h
 
 -- what is kept at an instruction
-pub group_is : (k : AllKept) (n : ℕ) (ends : List Ended) (v : Verdict) (i : ℕ) (g : Group) → Keeps k n ends → i < n
+pub group_is : (k : AllKept) (n : ℕ) (ends : List Ended) (v : Verdict) (i : ℕ) (g : Group) → KeepsAll k n ends → i < n
     → slice_get (by_verdict k v) i ≡ Some g → g ≡ group_kept (group ends i v)
 group_is k n ends v i g keeps inside at =
     let there = keeps.groups v i (rw (keeps.long v) inside) in cc
 
-pub group_inside : (k : AllKept) (n : ℕ) (ends : List Ended) (v : Verdict) (i : ℕ) (g : Group) → Keeps k n ends → i < n
+pub group_inside : (k : AllKept) (n : ℕ) (ends : List Ended) (v : Verdict) (i : ℕ) (g : Group) → KeepsAll k n ends → i < n
     → slice_get (by_verdict k v) i ≡ Some g → IfSome g.first (λ e. e.pc < n)
 group_inside k n ends v i g keeps inside at =
     rw (group_is k n ends v i g keeps inside at) (first_inside ends i n v inside)

@@ -7,7 +7,7 @@ use Rattle.cbpf_why.specs.declared.ended.Verdict.{Verdict}
 use Rattle.cbpf_why.specs.declared.graph.CountedProgram.{CountedProgram}
 use Rattle.cbpf_why.specs.Ends.{ends_of}
 use Rattle.cbpf_why.specs.Graph.{begins_block}
-use Rattle.cbpf_why.specs.Groups.{Keeps, by_verdict}
+use Rattle.cbpf_why.specs.Groups.{KeepsAll, by_verdict}
 use Rattle.cbpf_why.specs.Runs.{executed, taken}
 
 -- each instruction has its counts, its groups, and says whether it begins a block
@@ -22,4 +22,4 @@ pub record IsCounted {A P : Type 0} (c : CountedProgram A P) (m : Machine) (reco
   pub list : m.list ≡ c.program.now
   pub begins : (i : ℕ) → i < length m.list → slice_index_or c.begins.now i false ≡ begins_block m.list i
   pub runs : (i : ℕ) → runs_at c.runs.now i ≡ record { executed = executed m records i; taken = taken m records i }
-  pub groups : Keeps c.groups.now (length m.list) (ends_of m records)
+  pub groups : KeepsAll c.groups.now (length m.list) (ends_of m records)

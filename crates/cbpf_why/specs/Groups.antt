@@ -79,7 +79,7 @@ abbrev pub AreGroups : List Ended → Verdict → List Group → Type 0
 AreGroups ends v groups = (i : ℕ) → i < length groups → slice_get groups i ≡ Some (group_kept (group ends i v))
 
 -- what is kept of packets that ended in a program of so many instructions
-pub record Keeps (k : AllKept) (count : ℕ) (ends : List Ended) : Type 0 where
+pub record KeepsAll (k : AllKept) (count : ℕ) (ends : List Ended) : Type 0 where
   pub groups : (v : Verdict) → AreGroups ends v (by_verdict k v)
   pub long : (v : Verdict) → length (by_verdict k v) ≡ count
   pub totals : k.totals ≡ totals ends

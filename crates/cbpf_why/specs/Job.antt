@@ -13,7 +13,7 @@ use Rattle.cbpf_why.specs.declared.report.Report.{Report}
 use Rattle.cbpf_why.specs.declared.report.Report.TheVariants.{Summary, Ways, Packets, Coverage, Graph}
 use Rattle.cbpf_why.specs.Chosen.{chosen}
 use Rattle.cbpf_why.specs.Ends.{ends_of}
-use Rattle.cbpf_why.specs.Groups.{Keeps}
+use Rattle.cbpf_why.specs.Groups.{KeepsAll}
 use Rattle.cbpf_why.specs.Question.{machine_in}
 use Rattle.cbpf_why.specs.Reports.{goes_to_end, packets_text}
 use Rattle.cbpf_why.specs.Runs.{executed, taken}
@@ -49,7 +49,7 @@ pub record Tallies (t : CountedRuns) (m : Machine) (records : List Record) : Typ
 
 -- what is counted of the records that were taken
 pub record Took {A P : Type 0} (q : Question P) (c : Counted A) (records : List Record) : Type 0 where
-  pub groups : Keeps c.groups (length q.program.now) (ends_of (machine_in q) (where_counted (counts_groups q.report) records))
+  pub groups : KeepsAll c.groups (length q.program.now) (ends_of (machine_in q) (where_counted (counts_groups q.report) records))
   pub runs : Tallies c.tally (machine_in q) (where_counted (counts_runs q.report) records)
 
 -- the records of a list whose number isn't below a first one

@@ -5,7 +5,7 @@ ghost use Rattle.cbpf_machine.specs.Machine.{Machine};
 ghost use Rattle.pcap_classic.specs.Lent.{record_of};
 ghost use Rattle.pcap_classic.specs.Records.{Record};
 ghost use Rattle.cbpf_why.specs.Ends.{ended};
-ghost use Rattle.cbpf_why.specs.Groups.{Keeps};
+ghost use Rattle.cbpf_why.specs.Groups.{KeepsAll};
 ghost use Rattle.cbpf_why.specs.Job as spec;
 ghost use Rattle.cbpf_why.specs.Question.{machine_in};
 
@@ -27,7 +27,7 @@ pub(crate) struct Counted<A: Allocator> {
 
 impl<A: Allocator + Copy> Counted<A> {
     pub(crate) fn new<P: Allocator>(alloc: A, p: &Program<P>) -> Result<Counted<A>, AllocError>
-        ensures groups { IfOk result (λ c. Keeps c.groups (length p.now) []) }
+        ensures groups { IfOk result (λ c. KeepsAll c.groups (length p.now) []) }
         ensures tally { IfOk result (λ c. (m : Machine) → m.list ≡ p.now → spec.Tallies c.tally m []) }
     {
         Ok(Counted {

@@ -88,7 +88,7 @@ impl<A: Allocator> Model for Groups<A> {
 impl<A: Allocator + Copy> Groups<A> {
     /// No packet, for a program of so many instructions.
     pub(crate) fn new(alloc: A, length: u32) -> Result<Groups<A>, AllocError>
-        ensures { IfOk result (λ g. spec.Keeps g length []) }
+        ensures { IfOk result (λ g. spec.KeepsAll g length []) }
     {
         Ok(Groups {
             passed: empty_groups(alloc, length)?,
@@ -105,8 +105,8 @@ impl<A: Allocator + Copy> Groups<A> {
     /// Adds a packet.
     #[inline(always)]
     pub(crate) fn add(&mut self, ended: Ended)
-        requires { (n : ℕ) × (ends : List AnEnded) × spec.Keeps self.old n ends × (length ends + 1 < 2 ^ 64) × (ended.pc < n) }
-        ensures { (n : ℕ) (ends : List AnEnded) → spec.Keeps self.old n ends → spec.Keeps self.new n (ends ++ ended ∷ []) }
+        requires { (n : ℕ) × (ends : List AnEnded) × spec.KeepsAll self.old n ends × (length ends + 1 < 2 ^ 64) × (ended.pc < n) }
+        ensures { (n : ℕ) (ends : List AnEnded) → spec.KeepsAll self.old n ends → spec.KeepsAll self.new n (ends ++ ended ∷ []) }
     {
         match ended.verdict() {
             Verdict::Pass => {
@@ -211,8 +211,8 @@ fn write_groups_at<W: Write, A: Allocator + Copy, P: Allocator>(
     i: u32,
 ) -> Result<(), WriteFault>
     requires inside { i < length p.now }
-    requires kept { (ends : List AnEnded) × spec.Keeps groups.now (length p.now) ends }
-    ensures { (ends : List AnEnded) → spec.Keeps groups.now (length p.now) ends
+    requires kept { (ends : List AnEnded) × spec.KeepsAll groups.now (length p.now) ends }
+    ensures { (ends : List AnEnded) → spec.KeepsAll groups.now (length p.now) ends
         → Wrote (W.contents w.old) (W.contents w.new) result (spec.groups_at p.now ends i) }
 {
     let passed = groups.at(Verdict::Pass, i);
@@ -228,8 +228,8 @@ pub(crate) fn write_groups<W: Write, A: Allocator + Copy, P: Allocator>(
     p: &Program<P>,
     groups: &Groups<A>,
 ) -> Result<(), WriteFault>
-    requires { (ends : List AnEnded) × spec.Keeps groups.now (length p.now) ends }
-    ensures { (ends : List AnEnded) → spec.Keeps groups.now (length p.now) ends
+    requires { (ends : List AnEnded) × spec.KeepsAll groups.now (length p.now) ends }
+    ensures { (ends : List AnEnded) → spec.KeepsAll groups.now (length p.now) ends
         → Wrote (W.contents w.old) (W.contents w.new) result (spec.groups_text p.now ends) }
 {
     for i in 0..p.len() {

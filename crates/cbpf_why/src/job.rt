@@ -9,7 +9,7 @@ ghost use Rattle.cbpf_why.specs.Chosen.{AreSorted};
 ghost use Rattle.cbpf_why.specs.Coverage.{coverage_text};
 ghost use Rattle.cbpf_why.specs.Ends.{ends_of};
 ghost use Rattle.cbpf_why.specs.Graph.{graph_text};
-ghost use Rattle.cbpf_why.specs.Groups.{Keeps, groups_text, totals};
+ghost use Rattle.cbpf_why.specs.Groups.{KeepsAll, groups_text, totals};
 ghost use Rattle.cbpf_why.specs.Job as spec;
 ghost use Rattle.cbpf_why.specs.Question.{machine_in};
 ghost use Rattle.cbpf_why.specs.Reports as reports;
@@ -73,8 +73,8 @@ fn write_summary<P: Allocator, A: Allocator + Copy, W: Write>(
     groups: &Groups<A>,
     end: Option<CaptureEnd>,
 ) -> Result<(), WriteFault>
-    requires { (ends : List AnEnded) × Keeps groups.now (length p.now) ends }
-    ensures { (ends : List AnEnded) → Keeps groups.now (length p.now) ends
+    requires { (ends : List AnEnded) × KeepsAll groups.now (length p.now) ends }
+    ensures { (ends : List AnEnded) → KeepsAll groups.now (length p.now) ends
         → Wrote (W.contents w.old) (W.contents w.new) result
         (groups_text p.now ends
         ++ (finished_text (totals ends) ++ option_map_or reports.cut_line end [])) }
@@ -96,10 +96,10 @@ fn write_counted_graph<P: Allocator, A: Allocator + Copy, W: Write>(
     counted: &Counted<A>,
 ) -> Result<(), WhyFault>
     requires { (records : List Record)
-        × Keeps counted.now.groups (length question.now.program.now) (ends_of (machine_in question.now) records)
+        × KeepsAll counted.now.groups (length question.now.program.now) (ends_of (machine_in question.now) records)
         × spec.Tallies counted.now.tally (machine_in question.now) records }
     ensures { (records : List Record)
-        → Keeps counted.now.groups (length question.now.program.now) (ends_of (machine_in question.now) records)
+        → KeepsAll counted.now.groups (length question.now.program.now) (ends_of (machine_in question.now) records)
         → spec.Tallies counted.now.tally (machine_in question.now) records
         → spec.Closed (W.contents w.old) (W.contents w.new) result
         (graph_text (machine_in question.now) records (ends_of (machine_in question.now) records)) }

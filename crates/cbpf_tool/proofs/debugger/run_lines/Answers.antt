@@ -2,7 +2,7 @@ use Rattle.std.proofs.Common.{refl, sym, subst}
 use Rattle.std.proofs.KnownBytes.{Keeps-trans}
 use Rattle.cbpf_dbg.specs.View.{View}
 use Rattle.cbpf_tool.specs.LineReader.{pending_in}
-use Rattle.cbpf_tool.specs.Progress.{Progress}
+use Rattle.cbpf_tool.proofs.ScriptLemmas.{Progress}
 use Rattle.cbpf_tool.proofs.ScriptLemmas.{progress-start, line-faulted, write-faulted, quit-done, line-done, end-done}
 use Rattle.cbpf_tool.proofs.ScriptLemmas.{last-done, next, next-whole, next-last, unflushed}
 use Rattle.cbpf_tool.proofs.debugger.run_lines.Goals as goal

@@ -1,6 +1,6 @@
 use Rattle.std.proofs.Common.{◌≡◌, ℕ, List, Some, IsTrue}
 use Rattle.cbpf_tool.specs.LineReader.{pending_in, steps_left}
-use Rattle.cbpf_tool.specs.Progress.{Progress}
+use Rattle.cbpf_tool.proofs.ScriptLemmas.{Progress}
 use Rattle.cbpf_tool.proofs.debugger.run_lines.Given as goal
 
 abbrev pub invariant-script : goal.invariant-script

@@ -1,3 +1,5 @@
+use Rattle.std.proofs.Common.{rules}
+use Rattle.cbpf_dbg.proofs.BreakpointLemmas.{with_breakpoint_is}
 use Rattle.cbpf_dbg.proofs.CarryLemmas.{same-but, known-at, known-room, known-more, room-after, room-more}
 use Rattle.cbpf_dbg.proofs.session.Session.breakpoint_when.Goals as goal
 
@@ -22,3 +24,8 @@ invariant_of-self-in-Ok-insert g c = (
       (rw c.make_room.ensures.entries
       (room-more _ _ _ c.make_room.ensures.more (known-room _ _ _ _ _ _ c.in-Some.is c.self.invariant.1))))),
 )
+
+pub returns-clause-after : goal.returns-clause-after
+returns-clause-after g c =
+    let is = with_breakpoint_is c.self.inside.breakpoints.entries c.args.n c.args.when in
+    search rules

@@ -1,3 +1,5 @@
+use Rattle.std.proofs.Common.{rules}
+use Rattle.cbpf_dbg.proofs.BreakpointLemmas.{without_breakpoint_is}
 use Rattle.cbpf_dbg.proofs.CarryLemmas.{same-but, known-at, known-room, room-after}
 use Rattle.cbpf_dbg.proofs.session.Session.delete.Goals as goal
 
@@ -15,3 +17,8 @@ invariant_of-self g c = (
       (λ when at. let gone = c.shift_remove.ensures.updates.1 in absurd cc)
       (known-room _ _ _ _ _ _ c.in-Some.is c.self.invariant.1))),
 )
+
+pub returns-clause-after : goal.returns-clause-after
+returns-clause-after g c =
+    let is = without_breakpoint_is c.self.inside.breakpoints.entries c.args.n in
+    search rules
