@@ -28,7 +28,7 @@ ROWS = {
     ("fn make_meter() -> Meter", "Meter::new()"): ["Meter { turns: 1 }"],
     ("fn write_meter(m: &mut Meter)", "*m = Meter::new();"): ["m.turns = 1;", "m.tick();", "m.add(1);"],
     ("fn copy_meter(m: &Meter) -> Meter", "Meter::new()"): ["*m", "m.clone()"],
-    ("fn write_values(v: &mut Values)", "*v = Values::new();"): ["v.places[0] = None;"],
+    ("fn write_values(v: &mut Values)", "*v = Values::new();"): ["v.values[0] = None;"],
 }
 OTHER_ERRORS = {"*m": "move-out-of-place", "m.clone()": "unsupported-method"}
 OTHER_ERRORS |= dict.fromkeys(["m.tick();", "m.add(1);"], "private-item")
