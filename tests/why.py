@@ -111,8 +111,21 @@ class Debugged(NamedTuple):
 
 # The reports, as lines.
 def summary(found):
-    for pc, verdict, why, numbers in found.ends():
-        yield f"{verdict} {len(numbers)} at {found.listing[pc]}{why}, first packet {numbers[0]}"
+    groups = {}
+    for number, way in enumerate(found.ways, 1):
+        end = found.end(way)
+        tests = [step for step in way if found.program[step.pc][0] in JUMPS]
+        if end.returned and tests:
+            last = tests[-1]
+            held = found.holds(last)
+            went = f"{found.listing[last.pc]}, {'true' if held else 'false'}, then {found.listing[end.pc]}"
+            place = (last.pc, not held)
+        else:
+            went = found.listing[end.pc] + ("" if end.returned else f", {end.why}")
+            place = (end.pc, False)
+        groups.setdefault((place, list(VERDICTS).index(end.verdict), end.verdict, went), []).append(number)
+    for (_, _, verdict, went), numbers in sorted(groups.items()):
+        yield f"{verdict} {len(numbers)} at {went}, first packet {numbers[0]}"
     yield found.totals
     yield from cut_line(found)
 

@@ -8,4 +8,5 @@ pub mod FollowLemmas
 pub mod TogetherLemmas
 pub mod KeptLemmas
 pub mod WayLemmas
+pub mod ChoiceLemmas
 pub mod TallyLemmas

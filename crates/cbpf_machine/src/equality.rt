@@ -2,10 +2,10 @@
 
 ghost use Rattle.std.specs.Prelude.{◌≡◌, Decides};
 
-use crate::follow::Followed;
+use crate::follow::{Choice, Followed};
 use crate::load::Packet;
 use crate::outcome::{End, Outcome, Turn};
-use crate::packet_end::PacketEnd;
+use crate::packet_end::{Decided, PacketEnd};
 use crate::pause::When;
 use crate::state::State;
 use crate::tally::Runs;
@@ -21,6 +21,8 @@ pub fn equal_where_same()
     ensures outcome { (a b : _) → Decides (⟦<Outcome as PartialEq>⟧.eq a b) (a ≡ b) }
     ensures end { (a b : _) → Decides (⟦<End as PartialEq>⟧.eq a b) (a ≡ b) }
     ensures packet_end { (a b : _) → Decides (⟦<PacketEnd as PartialEq>⟧.eq a b) (a ≡ b) }
+    ensures choice { (a b : _) → Decides (⟦<Choice as PartialEq>⟧.eq a b) (a ≡ b) }
+    ensures decided { (a b : _) → Decides (⟦<Decided as PartialEq>⟧.eq a b) (a ≡ b) }
     ensures test { (a b : _) → Decides (⟦<Test as PartialEq>⟧.eq a b) (a ≡ b) }
     ensures way { (a b : _) → Decides (⟦<Way as PartialEq>⟧.eq a b) (a ≡ b) }
     ensures runs { (a b : _) → Decides (⟦<Runs as PartialEq>⟧.eq a b) (a ≡ b) }

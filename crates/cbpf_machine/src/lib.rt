@@ -30,14 +30,14 @@ mod whole_packet;
 
 pub use equality::equal_where_same;
 pub use execute::turn;
-pub use follow::{Followed, follow_on, follow_packet};
+pub use follow::{Choice, Followed, follow_on, follow_packet};
 pub use list_trail::ListTrail;
 pub use load::Packet;
 pub use mark_trail::MarkTrail;
 pub use meter::Meter;
 pub use missing::missing_extension;
 pub use outcome::{End, Outcome, Turn};
-pub use packet_end::{PacketEnd, end_of_packet};
+pub use packet_end::{Decided, PacketEnd, decided_end, end_of_packet};
 pub use pause::{Before, Never, Pause, Watched, When};
 pub use state::{Core, State};
 pub use tally::{Runs, Tally};

@@ -6,8 +6,9 @@ ghost use Rattle.cbpf_machine.specs.Registers.{zero_state};
 ghost use Rattle.cbpf_machine.specs.InPlace.{turn_of};
 ghost use Rattle.cbpf_machine.specs.Task.{entries_in, outcome_in, turn_from};
 ghost use Rattle.cbpf_machine.specs.Trace.{last_or, outcome_of};
+ghost use Rattle.cbpf_machine.specs.Ways.{last_choice};
 
-use crate::follow::make_turns;
+use crate::follow::{Choice, make_turns};
 use crate::meter::Meter;
 use crate::outcome::{End, Outcome};
 use crate::pause::Never;
@@ -34,6 +35,54 @@ impl PacketEnd {
     }
 }
 
+/// Where and why a packet ended, and the last conditional jump before.
+#[derive(Clone, Copy, Debug, PartialEq, Eq)]
+pub struct Decided {
+    /// Where and why it ended.
+    pub end: PacketEnd,
+    /// The last conditional jump, if there was one, and which way it went.
+    pub choice: Option<Choice>,
+}
+
+/// Runs a program on a packet as `end_of_packet` does, and finds which way the last conditional jump went.
+///
+/// The meter is at least twice `MAX_INSTRUCTIONS` turns below 2 to the 128 before.
+#[inline(always)]
+pub fn decided_end<A: Allocator>(meter: &mut Meter, task: &Task<'_, A>) -> Decided
+    requires { meter.old + 2 * MAX_INSTRUCTIONS ≤ 2 ^ 128 }
+    ensures last { result.end.last ≡ last_or zero_state (entries_in task.now) }
+    ensures reason { turn_from task.now result.end.last ≡ turn_of result.end.reason }
+    ensures outcome { outcome_in task.now ≡ outcome_of (turn_of result.end.reason) }
+    ensures choice { result.choice ≡ last_choice task.now.program.now (entries_in task.now) }
+    ensures turns { meter.new ≡ meter.old + length (entries_in task.now) }
+    ensures few { meter.new ≤ meter.old + length task.now.program.now }
+{
+    let _few = task.program.len();
+    let mut core = Core::zero();
+    let mut slots = [0; SLOTS];
+    let mut choice = None;
+    let (turns, end) = make_turns::<_, A, 3>(
+        &Never,
+        false,
+        None,
+        task,
+        &mut choice,
+        &mut core,
+        &mut slots,
+    );
+    meter.add(turns);
+    match end {
+        Some(reason) => Decided {
+            end: PacketEnd {
+                last: State::of(core, slots),
+                reason,
+            },
+            choice,
+        },
+        None => unreachable!(),
+    }
+}
+
 /// Runs a program on a packet as `run_packet` does: where and why the packet ended.
 ///
 /// The meter is at least twice `MAX_INSTRUCTIONS` turns below 2 to the 128 before.
@@ -46,16 +95,5 @@ pub fn end_of_packet<A: Allocator>(meter: &mut Meter, task: &Task<'_, A>) -> Pac
     ensures turns { meter.new ≡ meter.old + length (entries_in task.now) }
     ensures few { meter.new ≤ meter.old + length task.now.program.now }
 {
-    let _few = task.program.len();
-    let mut core = Core::zero();
-    let mut slots = [0; SLOTS];
-    let (turns, end) = make_turns::<_, A, 3>(&Never, false, None, task, &mut core, &mut slots);
-    meter.add(turns);
-    match end {
-        Some(reason) => PacketEnd {
-            last: State::of(core, slots),
-            reason,
-        },
-        None => unreachable!(),
-    }
+    decided_end(meter, task).end
 }

@@ -37,7 +37,15 @@ pub(crate) fn go_on<A: Allocator>(
     let fence = s.pc + most as usize;
     // A copy, which the loop of turns keeps in registers.
     let mut here = *s;
-    let (turns, end) = make_turns::<_, A, 2>(&Never, false, Some(fence), task, &mut here, slots);
+    let (turns, end) = make_turns::<_, A, 2>(
+        &Never,
+        false,
+        Some(fence),
+        task,
+        &mut None,
+        &mut here,
+        slots,
+    );
     *s = here;
     meter.add(turns);
     match end {
@@ -66,7 +74,15 @@ pub(crate) fn go_on_or_end<A: Allocator>(
     let fence = s.pc + most as usize;
     // A copy, which the loop of turns keeps in registers.
     let mut here = *s;
-    let (turns, end) = make_turns::<_, A, 3>(&Never, false, Some(fence), task, &mut here, slots);
+    let (turns, end) = make_turns::<_, A, 3>(
+        &Never,
+        false,
+        Some(fence),
+        task,
+        &mut None,
+        &mut here,
+        slots,
+    );
     *s = here;
     meter.add(turns);
     match end {

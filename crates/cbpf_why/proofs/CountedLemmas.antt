@@ -1,6 +1,6 @@
 -- How a packet ended, and what one packet more does to what is counted.
 use Rattle.std.proofs.Common.{◌≡◌, ℕ, ◌+◌, List, [], ◌∷◌, ◌++◌, length, arith, refl, sym, ap, ◌∙◌, length-append}
-use Rattle.std.specs.Prelude.{Bool, true, false}
+use Rattle.std.specs.Prelude.{Bool, true, false, Option}
 use Rattle.cbpf_why.specs.declared.counted.Counted.{Counted}
 use Rattle.cbpf_why.specs.declared.job.Question.{Question}
 use Rattle.cbpf_why.specs.Groups.{KeepsAll}
@@ -10,12 +10,16 @@ use Rattle.cbpf_machine.specs.Machine.{Machine}
 use Rattle.cbpf_machine.specs.Registers.{Registers, zero_state}
 use Rattle.cbpf_machine.specs.Trace.{last_or, trace}
 use Rattle.cbpf_machine.specs.Turn.{turn}
-use Rattle.cbpf_machine.specs.Ways.{Counted as CountedRuns, executed_in, taken_in, runs_at}
+use Rattle.cbpf_machine.specs.Ways.{Counted as CountedRuns, executed_in, last_choice, taken_in, runs_at}
+use Rattle.cbpf_machine.specs.declared.follow.Choice.{Choice}
+use Rattle.cbpf_why.specs.declared.ended.Ended.{Ended}
+use Rattle.cbpf_why.specs.declared.report.Report.{Report}
+use Rattle.cbpf_why.specs.declared.report.Report.TheVariants.{Summary, Ways, Packets, Coverage, Graph}
 use Rattle.cbpf_machine.specs.declared.outcome.End.{End}
 use Rattle.cbpf_machine.specs.declared.outcome.End.TheVariants.{Returned, Outside, ZeroDivisor, Unknown}
 use Rattle.pcap_classic.specs.Records.{Record}
-use Rattle.cbpf_why.specs.Ends.{end_by, ended, ended_at, ends_of}
-use Rattle.cbpf_why.specs.Job.{Tallies, Took, counts_groups, counts_runs, where_counted}
+use Rattle.cbpf_why.specs.Ends.{alone, alone_of, decided, decided_of, deciding, end_by, ended, ended_at}
+use Rattle.cbpf_why.specs.Job.{Tallies, Took, counts_groups, counts_runs, kept_end, kept_ends, where_counted}
 use Rattle.cbpf_why.specs.Question.{machine_in}
 use Rattle.cbpf_why.specs.Runs.{executed, taken}
 
@@ -33,11 +37,33 @@ ended-is m r last reason is made =
     ap (λ e. record { packet = r.number; pc = last.pc; reason = e }) (sym (ap end_by made ∙ end_is reason))
     ∙ ap (ended_at m r) is
 
+-- and what decided it
+pub decided-is : (m : Machine) (r : Record) (e : Ended) (choice : Option Choice) → e ≡ ended m r
+    → choice ≡ last_choice m.list (trace m r.bytes r.wire)
+    → record { ended = e; by = deciding e.reason choice } ≡ decided m r
+decided-is m r e choice is last = rw (is, last) refl
+
 -- one packet more
-pub ends-more : (m : Machine) (records : List Record) (r : Record)
-    → ends_of m (records ++ r ∷ []) ≡ ends_of m records ++ ended m r ∷ []
-ends-more m [] r = refl
-ends-more m (x ∷ xs) r = ap (λ l. ended m x ∷ l) (ends-more m xs r)
+pub kept_ends-more : (report : Report) (m : Machine) (records : List Record) (r : Record)
+    → kept_ends report m (records ++ r ∷ []) ≡ kept_ends report m records ++ kept_end report m r ∷ []
+kept_ends-more report m [] r = refl
+kept_ends-more report m (x ∷ xs) r = ap (λ l. kept_end report m x ∷ l) (kept_ends-more report m xs r)
+
+-- what the groups keep for each report
+pub kept-summary : (m : Machine) (records : List Record) → kept_ends Summary m records ≡ decided_of m records
+kept-summary m [] = refl
+kept-summary m (x ∷ xs) = ap (λ l. decided m x ∷ l) (kept-summary m xs)
+
+pub kept-graph : (m : Machine) (records : List Record) → kept_ends Graph m records ≡ alone_of m records
+kept-graph m [] = refl
+kept-graph m (x ∷ xs) = ap (λ l. alone m x ∷ l) (kept-graph m xs)
+
+kept-alone : (report : Report) (m : Machine) (r : Record) → counts_runs report ≡ true → kept_end report m r ≡ alone m r
+kept-alone Summary m r h = absurd cc
+kept-alone Coverage m r h = refl
+kept-alone Graph m r h = refl
+kept-alone Ways m r h = refl
+kept-alone Packets m r h = refl
 
 pub tallies-more : (old new : CountedRuns) (m : Machine) (records : List Record) (r : Record) → Tallies old m records
     → new.packets ≡ old.packets + 1 → length new.runs ≡ length old.runs
@@ -60,37 +86,45 @@ tallies-more old new m records r had packets long ran held = record {
 
 module _ {A P : Type 0} (q : Question P) where
   -- a packet more in the groups
-  pub took-groups : (old new : Counted A) (records : List Record) (r : Record) → counts_groups q.report ≡ true
-      → counts_runs q.report ≡ false → Took q old records → new.tally ≡ old.tally
-      → KeepsAll new.groups (length q.program.now) (ends_of (machine_in q) records ++ ended (machine_in q) r ∷ [])
+  pub took-groups : (old new : Counted A) (records : List Record) (r : Record) → q.report ≡ Summary → Took q old records
+      → new.tally ≡ old.tally
+      → KeepsAll new.groups (length q.program.now) (kept_ends Summary (machine_in q) records ++ decided (machine_in q) r ∷ [])
       → Took q new (records ++ r ∷ [])
-  took-groups old new records r g s t same keeps = record {
-    groups = rw (g, ends-more (machine_in q) records r) keeps;
+  took-groups old new records r s t same keeps = record {
+    groups = rw (s, kept_ends-more Summary (machine_in q) records r) keeps;
     runs = rw (s, same) (rw s at t.runs);
   }
 
   -- and in the tally
   pub took-both : (new : Counted A) (records : List Record) (r : Record) → counts_groups q.report ≡ true
       → counts_runs q.report ≡ true
-      → KeepsAll new.groups (length q.program.now) (ends_of (machine_in q) records ++ ended (machine_in q) r ∷ [])
+      → KeepsAll new.groups (length q.program.now) (kept_ends q.report (machine_in q) records ++ alone (machine_in q) r ∷ [])
       → Tallies new.tally (machine_in q) (records ++ r ∷ []) → Took q new (records ++ r ∷ [])
   took-both new records r g s keeps tallies = record {
-    groups = rw (g, ends-more (machine_in q) records r) keeps;
+    groups = rw (g, kept_ends-more q.report (machine_in q) records r, kept-alone q.report (machine_in q) r s) keeps;
     runs = rw s tallies;
   }
 
   -- what was kept of the records, where it is counted
   pub groups_counted : (c : Counted A) (records : List Record) → counts_groups q.report ≡ true → Took q c records
-      → KeepsAll c.groups (length q.program.now) (ends_of (machine_in q) records)
+      → KeepsAll c.groups (length q.program.now) (kept_ends q.report (machine_in q) records)
   groups_counted c records g t = rw g at t.groups
+
+  pub summary_counted : (c : Counted A) (records : List Record) → q.report ≡ Summary → Took q c records
+      → KeepsAll c.groups (length q.program.now) (kept_ends Summary (machine_in q) records)
+  summary_counted c records s t = rw s at t.groups
+
+  pub graph_counted : (c : Counted A) (records : List Record) → q.report ≡ Graph → Took q c records
+      → KeepsAll c.groups (length q.program.now) (alone_of (machine_in q) records)
+  graph_counted c records s t = rw (kept-graph (machine_in q) records) at (rw s at t.groups)
 
   pub runs_counted : (c : Counted A) (records : List Record) → counts_runs q.report ≡ true → Took q c records
       → Tallies c.tally (machine_in q) records
   runs_counted c records s t = rw s at t.runs
 
-pub length-ends : (m : Machine) (records : List Record) → length (ends_of m records) ≡ length records
-length-ends m [] = refl
-length-ends m (x ∷ xs) = let rest = length-ends m xs in omega (arith, rest)
+pub length-kept : (report : Report) (m : Machine) (records : List Record) → length (kept_ends report m records) ≡ length records
+length-kept report m [] = refl
+length-kept report m (x ∷ xs) = let rest = length-kept report m xs in omega (arith, rest)
 
 -- nothing is counted yet
 pub took-nothing : {A P : Type 0} (q : Question P) (c : Counted A) → KeepsAll c.groups (length q.program.now) []

@@ -13,8 +13,8 @@ use Rattle.cbpf_machine.specs.declared.outcome.Outcome.TheVariants as of_packet
 use Rattle.cbpf_machine.specs.declared.outcome.Turn.{Turn}
 use Rattle.cbpf_machine.specs.declared.outcome.Turn.TheVariants as turn_is
 use Rattle.pcap_classic.specs.Records.{Record}
-use Rattle.cbpf_why.specs.Ends.{end_by, ended, ends_of, is_verdict, kind_of, verdict_of}
-use Rattle.cbpf_why.specs.Groups.{count_of, totals}
+use Rattle.cbpf_why.specs.Ends.{decided, decided_of, end_by, ended, ends_of, is_verdict, kind_of, verdict_of}
+use Rattle.cbpf_why.specs.Groups.{all_totals, counted_of, count_of, totals}
 use Rattle.cbpf_why.specs.Laws.{TotalsCountOutcomes, VerdictIsOutcome, counts_of, outcomes_of}
 use Rattle.cbpf_why.specs.declared.ended.Verdict.{Verdict}
 use Rattle.cbpf_why.specs.declared.ended.Verdict.TheVariants.{Pass, Fail, Unknown}
@@ -68,3 +68,17 @@ totals_count_outcomes m records =
     ∙ ap (λ (n : ℕ). record { passes = o.passes; fails = n; unknown = t.unknown }) (counted m Fail is_fail fail_is records)
     ∙ ap (λ (n : ℕ). record { passes = o.passes; fails = o.fails; unknown = n })
     (counted m Unknown is_unknown unknown_is records)
+
+-- the totals that are kept are those of the ends
+counted-is : (m : Machine) (v : Verdict) (records : List Record) → counted_of (decided_of m records) v ≡ count_of (ends_of m records) v
+counted-is m v records =
+    counted_same (λ d. is_verdict v (verdict_of d.ended.reason)) (λ e. is_verdict v (verdict_of e.reason)) (decided m) (ended m)
+    (λ r. refl) records
+
+pub totals-are : (m : Machine) (records : List Record) → all_totals (decided_of m records) ≡ totals (ends_of m records)
+totals-are m records =
+    let a = all_totals (decided_of m records) in
+    let t = totals (ends_of m records) in
+    ap (λ (n : ℕ). record { passes = n; fails = a.fails; unknown = a.unknown }) (counted-is m Pass records)
+    ∙ ap (λ (n : ℕ). record { passes = t.passes; fails = n; unknown = a.unknown }) (counted-is m Fail records)
+    ∙ ap (λ (n : ℕ). record { passes = t.passes; fails = t.fails; unknown = n }) (counted-is m Unknown records)

@@ -4,6 +4,11 @@ use Rattle.std.specs.Prelude.{Bool, true, false, filter, if◌then◌else◌, sl
 use Rattle.std.specs.List.{flat_map}
 use Rattle.std.proofs.lemmas.Grind.{flat_map-append}
 use Rattle.cbpf_code.specs.Sound.{IsSound}
+use Rattle.cbpf_code.specs.declared.insn.Insn.{Insn}
+use Rattle.cbpf_machine.specs.declared.follow.Choice.{Choice}
+use Rattle.cbpf_machine.specs.declared.outcome.End.{End}
+use Rattle.cbpf_machine.specs.declared.outcome.End.TheVariants as end_is
+use Rattle.cbpf_why.specs.Ends.{deciding}
 use Rattle.cbpf_code.specs.Writing.{Appended, AppendedPart}
 use Rattle.cbpf_code.proofs.WrittenLemmas.{appended-then, part-then, part-front}
 use Rattle.cbpf_code.proofs.SoundLemmas.{sound_some}
@@ -12,7 +17,7 @@ use Rattle.cbpf_machine.specs.OnPacket.{OnPacket, IsOnTrace, trace_in, turn_in}
 use Rattle.cbpf_machine.specs.Trace.{last_or, next_of}
 use Rattle.cbpf_machine.specs.declared.outcome.Turn.{Turn}
 use Rattle.cbpf_machine.specs.declared.outcome.Turn.TheVariants.{Next, Returned, Outside, ZeroDivisor, Unknown}
-use Rattle.cbpf_machine.specs.Ways.{is_test_at, last_test, test_of}
+use Rattle.cbpf_machine.specs.Ways.{choice_at, is_test_at, last_choice, last_test, test_of}
 use Rattle.cbpf_machine.proofs.TraceLemmas.{goes_last, trace-is_run}
 use Rattle.cbpf_machine.proofs.WayLemmas.{take_next}
 
@@ -59,6 +64,19 @@ test_within : (n : ℕ) (o : Option Registers) → ((s : Registers) → o ≡ So
 test_within n None h = tt
 test_within n (Some s) h = h s refl
 
+choice_within : (list : List Insn) (n : ℕ) (o : Option Registers) → ((s : Registers) → o ≡ Some s → s.pc < n)
+    → IfSome (option_map (choice_at list) o) (λ c. c.pc < n)
+choice_within list n None h = tt
+choice_within list n (Some s) h = h s refl
+
+-- the jump that decided is one that was made
+pub deciding_inside : (n : ℕ) (reason : End) (choice : Option Choice) → IfSome choice (λ c. c.pc < n)
+    → IfSome (deciding reason choice) (λ c. c.pc < n)
+deciding_inside n (end_is.Returned v) choice h = h
+deciding_inside n end_is.Outside choice h = tt
+deciding_inside n end_is.ZeroDivisor choice h = tt
+deciding_inside n (end_is.Unknown e) choice h = tt
+
 -- of a checked program
 module _ (t : OnPacket) (sound : IsSound t.machine.list) where
   pub last_inside : (last_or zero_state (trace_in t)).pc < length t.machine.list
@@ -66,6 +84,10 @@ module _ (t : OnPacket) (sound : IsSound t.machine.list) where
 
   pub test_inside : IfSome (option_map test_of (last_test t.machine.list (trace_in t))) (λ o. o.pc < length t.machine.list)
   test_inside = test_within _ (last_test t.machine.list (trace_in t))
+      (filter_within _ (is_test_at t.machine.list) (trace_in t) (trace-is_run t sound).inside _)
+
+  pub choice_inside : IfSome (last_choice t.machine.list (trace_in t)) (λ c. c.pc < length t.machine.list)
+  choice_inside = choice_within t.machine.list _ (last_test t.machine.list (trace_in t))
       (filter_within _ (is_test_at t.machine.list) (trace_in t) (trace-is_run t sound).inside _)
 
 -- a turn that goes on

@@ -1,11 +1,11 @@
 -- What is counted of a program over records, of which a graph is made (this project's own). No public clause names it.
-use Rattle.std.specs.Prelude.{◌≡◌, ◌<◌, ℕ, false, List, length, slice_index_or}
+use Rattle.std.specs.Prelude.{◌≡◌, ◌<◌, ◌*◌, ℕ, false, List, length, slice_index_or}
 use Rattle.cbpf_machine.specs.Machine.{Machine}
 use Rattle.cbpf_machine.specs.Ways.{runs_at}
 use Rattle.pcap_classic.specs.Records.{Record}
 use Rattle.cbpf_why.specs.declared.ended.Verdict.{Verdict}
 use Rattle.cbpf_why.specs.declared.graph.CountedProgram.{CountedProgram}
-use Rattle.cbpf_why.specs.Ends.{ends_of}
+use Rattle.cbpf_why.specs.Ends.{alone_of}
 use Rattle.cbpf_why.specs.Graph.{begins_block}
 use Rattle.cbpf_why.specs.Groups.{KeepsAll, by_verdict}
 use Rattle.cbpf_why.specs.Runs.{executed, taken}
@@ -14,7 +14,7 @@ use Rattle.cbpf_why.specs.Runs.{executed, taken}
 pub record HasAllCounts {A P : Type 0} (c : CountedProgram A P) : Type 0 where
   pub runs : length c.runs.now ≡ length c.program.now
   pub begins : length c.begins.now ≡ length c.program.now
-  pub groups : (v : Verdict) → length (by_verdict c.groups.now v) ≡ length c.program.now
+  pub groups : (v : Verdict) → length (by_verdict c.groups.now v) ≡ 2 * length c.program.now
 
 -- what is counted of a program over some records: the blocks are those of its list, each instruction ran so often, and
 -- the groups are those of the records
@@ -22,4 +22,4 @@ pub record IsCounted {A P : Type 0} (c : CountedProgram A P) (m : Machine) (reco
   pub list : m.list ≡ c.program.now
   pub begins : (i : ℕ) → i < length m.list → slice_index_or c.begins.now i false ≡ begins_block m.list i
   pub runs : (i : ℕ) → runs_at c.runs.now i ≡ record { executed = executed m records i; taken = taken m records i }
-  pub groups : KeepsAll c.groups.now (length m.list) (ends_of m records)
+  pub groups : KeepsAll c.groups.now (length m.list) (alone_of m records)

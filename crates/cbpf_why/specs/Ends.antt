@@ -1,12 +1,14 @@
 -- How a packet ends, where and why there (Linux Documentation/networking/filter: a filter runs to a return, whose value
 -- decides; the words are this project's own).
-use Rattle.std.specs.Prelude.{ℕ, Bool, true, false, List, [], ◌++◌, codes, decimal, map}
+use Rattle.std.specs.Prelude.{ℕ, Bool, true, false, List, [], ◌++◌, codes, decimal, map, Option, None}
 use Rattle.cbpf_code.specs.Extension.{ext_name}
 use Rattle.cbpf_machine.specs.Machine.{Machine}
 use Rattle.cbpf_machine.specs.Registers.{Registers, zero_state}
 use Rattle.cbpf_machine.specs.InPlace.{turn_of}
 use Rattle.cbpf_machine.specs.Trace.{trace, last_or, outcome_of}
 use Rattle.cbpf_machine.specs.Turn.{turn}
+use Rattle.cbpf_machine.specs.Ways.{last_choice}
+use Rattle.cbpf_machine.specs.declared.follow.Choice.{Choice}
 use Rattle.cbpf_machine.specs.declared.outcome.Turn.{Turn}
 use Rattle.cbpf_machine.specs.declared.outcome.Turn.TheVariants as turn_is
 use Rattle.cbpf_machine.specs.declared.outcome.End.{End}
@@ -17,6 +19,7 @@ use Rattle.pcap_classic.specs.Records.{Record}
 use Rattle.cbpf_why.specs.declared.ended.Verdict.{Verdict}
 use Rattle.cbpf_why.specs.declared.ended.Verdict.TheVariants as verdict_is
 use Rattle.cbpf_why.specs.declared.ended.Ended.{Ended}
+use Rattle.cbpf_why.specs.declared.ended.Decided.{Decided}
 
 -- the kind of an outcome
 abbrev pub kind_of : Outcome → Verdict
@@ -53,12 +56,41 @@ ended m r = ended_at m r (last_or zero_state (trace m r.bytes r.wire))
 abbrev pub ends_of : Machine → List Record → List Ended
 ends_of m records = map (ended m) records
 
+-- the last conditional jump of a packet that ended for this reason, where it decided: where the packet returned
+abbrev pub deciding : End → Option Choice → Option Choice
+deciding (Returned v) choice = choice
+deciding Outside choice = None
+deciding ZeroDivisor choice = None
+deciding (Unknown e) choice = None
+
+-- how a packet ends, and which conditional jump decided that, if one did: the last one before a return
+abbrev pub decided : Machine → Record → Decided
+decided m r = record {
+  ended = ended m r;
+  by = deciding (ended m r).reason (last_choice m.list (trace m r.bytes r.wire));
+}
+
+abbrev pub decided_of : Machine → List Record → List Decided
+decided_of m records = map (decided m) records
+
+-- the same without the jump
+abbrev pub alone : Machine → Record → Decided
+alone m r = record { ended = ended m r; by = None }
+
+abbrev pub alone_of : Machine → List Record → List Decided
+alone_of m records = map (alone m) records
+
 -- ---- the words for it
 
 abbrev pub verdict_text : Verdict → List ℕ
 verdict_text verdict_is.Pass = codes "pass"
 verdict_text verdict_is.Fail = codes "fail"
 verdict_text verdict_is.Unknown = codes "unknown"
+
+-- which way a conditional jump went
+abbrev pub direction_text : Bool → List ℕ
+direction_text true = codes ", true, then "
+direction_text false = codes ", false, then "
 
 abbrev pub verdict_in : Ended → List ℕ
 verdict_in e = verdict_text (verdict_of e.reason)

@@ -3,7 +3,7 @@
 -- instruction with the same verdict a node in the colour of the verdict. A block, an instruction or a way that never
 -- ran is grey (this project's own; labels and their tags are those of Graphviz's "The DOT Language" and "HTML-Like
 -- Labels").
-use Rattle.std.specs.Prelude.{ℕ, zero, suc, ◌+◌, ◌-◌, Bool, ◌==◌, ◌||◌, false, List, [], ◌∷◌, ◌++◌, length}
+use Rattle.std.specs.Prelude.{ℕ, zero, suc, ◌+◌, ◌-◌, ◌*◌, Bool, ◌==◌, ◌||◌, false, List, [], ◌∷◌, ◌++◌, length}
 use Rattle.std.specs.Prelude.{codes, decimal, Option, Some, None, if◌then◌else◌, slice_get}
 use Rattle.std.specs.List.{flat_map, list_any, enumerate_from}
 use Rattle.cbpf_code.specs.Listing.{line_text}
@@ -15,6 +15,7 @@ use Rattle.cbpf_code.specs.declared.opcode.Op.TheVariants.{Ja, Jump, RetK, RetA}
 use Rattle.cbpf_machine.specs.Machine.{Machine}
 use Rattle.cbpf_reply.specs.Packet.{texts_from}
 use Rattle.pcap_classic.specs.Records.{Record}
+use Rattle.cbpf_why.specs.declared.ended.Decided.{Decided}
 use Rattle.cbpf_why.specs.declared.ended.Ended.{Ended}
 use Rattle.cbpf_why.specs.declared.ended.Verdict.{Verdict}
 use Rattle.cbpf_why.specs.declared.ended.Verdict.TheVariants.{Pass, Fail, Unknown}
@@ -88,15 +89,15 @@ edge from to word count =
     concat (node from ∷ codes " -> " ∷ node to ∷ codes " [label=\"" ∷ word ∷ decimal count ∷ codes "\""
     ∷ grey_where_none count ∷ codes "]\n" ∷ [])
 
--- what is counted of an instruction: its runs, those of its block, and its three groups
-abbrev pub facts_at : Machine → List Record → List Ended → ℕ → Facts
+-- what is counted of an instruction: its runs, those of its block, and the three groups in its first row
+abbrev pub facts_at : Machine → List Record → List Decided → ℕ → Facts
 facts_at m records ends i =
     record {
       runs = record { executed = executed m records i; taken = taken m records i };
       block_runs = executed m records (block_of m.list i);
-      passed = group_kept (group ends i Pass);
-      failed = group_kept (group ends i Fail);
-      unknown = group_kept (group ends i Unknown);
+      passed = group_kept (group ends (2 * i) Pass);
+      failed = group_kept (group ends (2 * i) Fail);
+      unknown = group_kept (group ends (2 * i) Unknown);
     }
 
 -- how many packets ended at an instruction
@@ -153,9 +154,9 @@ end_edge block e count =
     ∷ codes "\"]\n" ∷ [])
 
 -- by how many packets a group has, and its first one
-abbrev pub group_end_by : ℕ → ℕ → Option Ended → List ℕ
+abbrev pub group_end_by : ℕ → ℕ → Option Decided → List ℕ
 group_end_by block count None = []
-group_end_by block count (Some e) = end_edge block e count
+group_end_by block count (Some d) = end_edge block d.ended count
 
 -- the oval and the edge of a group, where it has packets
 abbrev pub group_end : ℕ → Group → List ℕ
@@ -170,7 +171,7 @@ abbrev pub graph_head : List ℕ
 graph_head = codes "digraph filter {\nnode [shape=box fontname=monospace]\n"
 
 -- the blocks with the ways between them, and then the groups of packets that ended
-unfoldable pub graph_text : Machine → List Record → List Ended → List ℕ
+unfoldable pub graph_text : Machine → List Record → List Decided → List ℕ
 graph_text m records ends =
     graph_head ++ (texts_from (λ i. block_part m.list i (facts_at m records ends i)) 0 (length m.list)
     ++ (texts_from (λ i. end_part (block_of m.list i) (facts_at m records ends i)) 0 (length m.list) ++ codes "}\n"))

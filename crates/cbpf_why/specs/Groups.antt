@@ -1,41 +1,61 @@
--- The packets that ended at the same instruction with the same verdict: how many, why, and the first of them; and how
--- many packets ended with each verdict (this project's own).
-use Rattle.std.specs.Prelude.{◌≡◌, ◌<◌, Option, Some, None, slice_get, ℕ, Bool, ◌==◌, ◌&&◌, ◌+◌, unwrap_or, List, [], ◌∷◌, ◌++◌, length, codes, decimal, filter, count_by}
+-- The packets that ended with the same verdict by the same way of the same conditional jump, or at the same instruction
+-- where no jump decided: how many, why, and the first of them; and how many packets ended with each verdict (this
+-- project's own).
+use Rattle.std.specs.Prelude.{◌≡◌, ◌<◌, Option, Some, None, IfSome, All, slice_get, ℕ, Bool, ◌==◌, ◌&&◌, ◌+◌, ◌*◌, unwrap_or, List, [], ◌∷◌, ◌++◌, length, codes, decimal, filter, count_by, if◌then◌else◌}
 use Rattle.cbpf_code.specs.Listing.{line_text}
 use Rattle.cbpf_code.specs.Text.{concat}
 use Rattle.cbpf_code.specs.declared.insn.Insn.{Insn}
+use Rattle.cbpf_machine.specs.declared.follow.Choice.{Choice}
 use Rattle.cbpf_reply.specs.Packet.{texts_from}
 use Rattle.cbpf_reply.specs.declared.reply.Counts.{Counts}
+use Rattle.cbpf_why.specs.declared.ended.Decided.{Decided}
 use Rattle.cbpf_why.specs.declared.ended.Ended.{Ended}
 use Rattle.cbpf_why.specs.declared.groups.Group.{Group}
 use Rattle.cbpf_why.specs.declared.ended.Verdict.{Verdict}
 use Rattle.cbpf_why.specs.declared.ended.Verdict.TheVariants.{Pass, Fail, Unknown}
-use Rattle.cbpf_why.specs.Ends.{verdict_in, is_verdict, verdict_of, reason_after}
+use Rattle.cbpf_why.specs.Ends.{verdict_in, is_verdict, verdict_of, reason_after, direction_text}
 
-abbrev pub is_in_group : ℕ → Verdict → Ended → Bool
-is_in_group i v e = (e.pc == i) && is_verdict v (verdict_of e.reason)
+-- Groups stand in rows, in the order of their lines: two for each instruction. In its second row are the packets on which
+-- it decided as a conditional jump whose comparison didn't hold. In its first row are those on which it decided as one whose
+-- comparison held, and those that ended at it with no jump that decided.
+abbrev pub row_by : ℕ → Option Choice → ℕ
+row_by pc None = 2 * pc
+row_by pc (Some c) = 2 * c.pc + (if c.taken then 0 else 1)
 
--- the packets that ended at an instruction with a verdict, in order
-abbrev pub group : List Ended → ℕ → Verdict → List Ended
+abbrev pub row : Decided → ℕ
+row d = row_by d.ended.pc d.by
+
+abbrev pub is_in_group : ℕ → Verdict → Decided → Bool
+is_in_group i v d = (row d == i) && is_verdict v (verdict_of d.ended.reason)
+
+-- the packets in a row with a verdict, in order
+abbrev pub group : List Decided → ℕ → Verdict → List Decided
 group ends i v = filter (is_in_group i v) ends
 
--- The line of a group, by how many packets it has and its first one. The instruction, the verdict and the text of the
--- reason are those of each packet of the group: only what a `ret a` returns may differ, and that isn't written.
-abbrev pub group_line : List Insn → ℕ → Ended → List ℕ
-group_line list count first =
+-- The line of a group, by how many packets it has and its first one. The verdict, the instructions and the text of the
+-- reason are those of each packet of the group: from a conditional jump that decided, the way to the return is straight.
+-- Only what a `ret a` returns may differ, and that isn't written.
+abbrev pub line_by : List Insn → ℕ → Ended → Option Choice → List ℕ
+line_by list count first None =
     concat (verdict_in first ∷ codes " " ∷ decimal count ∷ codes " at " ∷ line_text list first.pc
     ∷ reason_after first.reason ∷ codes ", first packet " ∷ decimal first.packet ∷ codes "\n" ∷ [])
+line_by list count first (Some c) =
+    concat (verdict_in first ∷ codes " " ∷ decimal count ∷ codes " at " ∷ line_text list c.pc ∷ direction_text c.taken
+    ∷ line_text list first.pc ∷ codes ", first packet " ∷ decimal first.packet ∷ codes "\n" ∷ [])
+
+abbrev pub group_line : List Insn → ℕ → Decided → List ℕ
+group_line list count first = line_by list count first.ended first.by
 
 -- what is kept of a group: how many there are, and the first one
-abbrev pub group_kept : List Ended → Group
+abbrev pub group_kept : List Decided → Group
 group_kept es = record { count = length es; first = slice_get es 0 }
 
 -- with a packet more
-abbrev pub with_one : Group → Ended → Group
+abbrev pub with_one : Group → Decided → Group
 with_one g e = record { count = g.count + 1; first = Some (unwrap_or g.first e) }
 
 -- by how many packets a group has, and its first one
-abbrev pub group_text_by : List Insn → ℕ → Option Ended → List ℕ
+abbrev pub group_text_by : List Insn → ℕ → Option Decided → List ℕ
 group_text_by list count None = []
 group_text_by list count (Some first) = group_line list count first
 
@@ -43,14 +63,14 @@ group_text_by list count (Some first) = group_line list count first
 abbrev pub group_text : List Insn → Group → List ℕ
 group_text list g = group_text_by list g.count g.first
 
--- at an instruction, those that passed before those that failed, and these before the others
-abbrev pub groups_at : List Insn → List Ended → ℕ → List ℕ
+-- in a row, those that passed before those that failed, and these before the others
+abbrev pub groups_at : List Insn → List Decided → ℕ → List ℕ
 groups_at list ends i = group_text list (group_kept (group ends i Pass))
     ++ (group_text list (group_kept (group ends i Fail)) ++ group_text list (group_kept (group ends i Unknown)))
 
 -- a line for each group that has packets, in the order of the instructions
-unfoldable pub groups_text : List Insn → List Ended → List ℕ
-groups_text list ends = texts_from (groups_at list ends) 0 (length list)
+unfoldable pub groups_text : List Insn → List Decided → List ℕ
+groups_text list ends = texts_from (groups_at list ends) 0 (2 * length list)
 
 -- how many ended with a verdict
 abbrev pub count_of : List Ended → Verdict → ℕ
@@ -62,7 +82,7 @@ totals ends = record { passes = count_of ends Pass; fails = count_of ends Fail; 
 
 -- ---- what is kept of all groups
 
--- for each verdict a list with a group for each instruction; and the totals
+-- for each verdict a list with a group for each row; and the totals
 pub record AllKept : Type 0 where
   pub passed : List Group
   pub failed : List Group
@@ -74,12 +94,26 @@ by_verdict k Pass = k.passed
 by_verdict k Fail = k.failed
 by_verdict k Unknown = k.unknown
 
--- the groups of a verdict, by instruction
-abbrev pub AreGroups : List Ended → Verdict → List Group → Type 0
+-- the groups of a verdict, by row
+abbrev pub AreGroups : List Decided → Verdict → List Group → Type 0
 AreGroups ends v groups = (i : ℕ) → i < length groups → slice_get groups i ≡ Some (group_kept (group ends i v))
 
+-- a packet ended in a program of so many instructions, and its jump is one of them
+pub record IsInside (count : ℕ) (d : Decided) : Type 0 where
+  pub pc : d.ended.pc < count
+  pub by : IfSome d.by (λ c. c.pc < count)
+
+-- how many ended with a verdict, and the totals
+abbrev pub counted_of : List Decided → Verdict → ℕ
+counted_of ends v = count_by (λ d. is_verdict v (verdict_of d.ended.reason)) ends
+
+abbrev pub all_totals : List Decided → Counts
+all_totals ends =
+    record { passes = counted_of ends Pass; fails = counted_of ends Fail; unknown = counted_of ends Unknown }
+
 -- what is kept of packets that ended in a program of so many instructions
-pub record KeepsAll (k : AllKept) (count : ℕ) (ends : List Ended) : Type 0 where
+pub record KeepsAll (k : AllKept) (count : ℕ) (ends : List Decided) : Type 0 where
   pub groups : (v : Verdict) → AreGroups ends v (by_verdict k v)
-  pub long : (v : Verdict) → length (by_verdict k v) ≡ count
-  pub totals : k.totals ≡ totals ends
+  pub long : (v : Verdict) → length (by_verdict k v) ≡ 2 * count
+  pub inside : All (IsInside count) ends
+  pub totals : k.totals ≡ all_totals ends

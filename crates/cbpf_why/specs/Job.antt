@@ -1,5 +1,5 @@
 -- What was taken of a capture, packet by packet (this project's own). No public clause names it.
-use Rattle.std.specs.Prelude.{◌≡◌, ℕ, ◌+◌, ◌<◌, ◌≤◌, nat_le, Bool, true, false, List, [], ◌++◌, length, filter, slice_get, if◌then◌else◌}
+use Rattle.std.specs.Prelude.{◌≡◌, ℕ, ◌+◌, ◌<◌, ◌≤◌, nat_le, Bool, true, false, List, [], ◌++◌, length, filter, map, slice_get, if◌then◌else◌}
 use Rattle.std.specs.Prelude.{Option, Some, None, IfSome, ◌^◌, Result, Ok, Err}
 use Rattle.cbpf_machine.specs.Machine.{Machine}
 use Rattle.cbpf_machine.specs.Ways.{Counted as CountedRuns, runs_at}
@@ -8,11 +8,12 @@ use Rattle.pcap_classic.specs.Records.{Record}
 use Rattle.pcap_classic.specs.Savefile.{Savefile}
 use Rattle.cbpf_why.specs.declared.chosen.PacketRange.{PacketRange}
 use Rattle.cbpf_why.specs.declared.counted.Counted.{Counted}
+use Rattle.cbpf_why.specs.declared.ended.Decided.{Decided}
 use Rattle.cbpf_why.specs.declared.job.Question.{Question}
 use Rattle.cbpf_why.specs.declared.report.Report.{Report}
 use Rattle.cbpf_why.specs.declared.report.Report.TheVariants.{Summary, Ways, Packets, Coverage, Graph}
 use Rattle.cbpf_why.specs.Chosen.{chosen}
-use Rattle.cbpf_why.specs.Ends.{ends_of}
+use Rattle.cbpf_why.specs.Ends.{alone, decided}
 use Rattle.cbpf_why.specs.Groups.{KeepsAll}
 use Rattle.cbpf_why.specs.Question.{machine_in}
 use Rattle.cbpf_why.specs.Reports.{goes_to_end, packets_text}
@@ -37,6 +38,17 @@ counts_runs Summary = false
 counts_runs Ways = false
 counts_runs Packets = false
 
+-- what the groups keep of a packet: the summary alone names the jump that decided
+abbrev pub kept_end : Report → Machine → Record → Decided
+kept_end Summary m r = decided m r
+kept_end Coverage m r = alone m r
+kept_end Graph m r = alone m r
+kept_end Ways m r = alone m r
+kept_end Packets m r = alone m r
+
+abbrev pub kept_ends : Report → Machine → List Record → List Decided
+kept_ends report m records = map (kept_end report m) records
+
 -- the records where they are counted
 abbrev pub where_counted : Bool → List Record → List Record
 where_counted counts records = if counts then records else []
@@ -49,7 +61,7 @@ pub record Tallies (t : CountedRuns) (m : Machine) (records : List Record) : Typ
 
 -- what is counted of the records that were taken
 pub record Took {A P : Type 0} (q : Question P) (c : Counted A) (records : List Record) : Type 0 where
-  pub groups : KeepsAll c.groups (length q.program.now) (ends_of (machine_in q) (where_counted (counts_groups q.report) records))
+  pub groups : KeepsAll c.groups (length q.program.now) (kept_ends q.report (machine_in q) (where_counted (counts_groups q.report) records))
   pub runs : Tallies c.tally (machine_in q) (where_counted (counts_runs q.report) records)
 
 -- the records of a list whose number isn't below a first one

@@ -18,7 +18,7 @@ use Rattle.cbpf_why.specs.declared.report.Report.{Report}
 use Rattle.cbpf_why.specs.declared.report.Report.TheVariants.{Summary, Ways, Packets, Coverage, Graph}
 use Rattle.cbpf_why.specs.Chosen.{chosen}
 use Rattle.cbpf_why.specs.Coverage.{coverage_text}
-use Rattle.cbpf_why.specs.Ends.{ended, ends_of}
+use Rattle.cbpf_why.specs.Ends.{alone_of, decided_of, ended, ends_of}
 use Rattle.cbpf_why.specs.Graph.{graph_text}
 use Rattle.cbpf_why.specs.Groups.{groups_text, totals}
 use Rattle.cbpf_why.specs.Packets.{packet_line}
@@ -40,10 +40,10 @@ cut_line e = cut_text e.count e.ending
 -- and says so
 abbrev pub closing_text : Report → Machine → List Record → Option CaptureEnd → List ℕ
 closing_text Summary m records end =
-    groups_text m.list (ends_of m records)
+    groups_text m.list (decided_of m records)
     ++ (finished_text (totals (ends_of m records)) ++ option_map_or cut_line end [])
 closing_text Coverage m records end = coverage_text m records
-closing_text Graph m records end = graph_text m records (ends_of m records)
+closing_text Graph m records end = graph_text m records (alone_of m records)
 closing_text Ways m records end = []
 closing_text Packets m records end = []
 

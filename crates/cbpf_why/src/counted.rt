@@ -1,19 +1,20 @@
 //! What is counted of packets.
 
-ghost use Rattle.std.specs.Prelude.{◌≡◌, ◌<◌, ◌+◌, ◌^◌, ◌++◌, [], ◌∷◌, List, length, true, false, IfOk};
+ghost use Rattle.std.specs.Prelude.{◌≡◌, ◌<◌, ◌+◌, ◌^◌, ◌++◌, [], ◌∷◌, List, length, true, IfOk};
 ghost use Rattle.cbpf_machine.specs.Machine.{Machine};
 ghost use Rattle.pcap_classic.specs.Lent.{record_of};
 ghost use Rattle.pcap_classic.specs.Records.{Record};
-ghost use Rattle.cbpf_why.specs.Ends.{ended};
-ghost use Rattle.cbpf_why.specs.Groups.{KeepsAll};
+ghost use Rattle.cbpf_why.specs.Ends.{decided, ended};
+ghost use Rattle.cbpf_why.specs.Groups.{IsInside, KeepsAll};
 ghost use Rattle.cbpf_why.specs.Job as spec;
 ghost use Rattle.cbpf_why.specs.Question.{machine_in};
+ghost use Rattle.cbpf_why.specs.declared.report.Report.TheVariants.{Summary};
 
-use crate::ended::Ended;
+use crate::ended::{Decided, Ended};
 use crate::groups::Groups;
 use crate::job::Question;
 use cbpf_code::Program;
-use cbpf_machine::{Meter, Tally, Task, end_of_packet};
+use cbpf_machine::{Meter, Tally, Task, decided_end};
 use cbpf_reply::packet_of;
 use pcap_classic::Captured;
 use std::alloc::{AllocError, Allocator};
@@ -37,12 +38,12 @@ impl<A: Allocator + Copy> Counted<A> {
     }
 }
 
-/// How a packet ends.
-// It alone calls `end_of_packet`, and the summary alone calls it: so the loop over a packet is inlined there.
+/// How a packet ends, and which conditional jump decided that.
+// It alone calls `decided_end`, and the summary alone calls it: so the loop over a packet is inlined there.
 #[inline(always)]
-fn end_of<P: Allocator>(question: &Question<'_, P>, item: &Captured<'_>) -> Ended
-    ensures ended { result ≡ ended (machine_in question.now) (record_of item.now) }
-    ensures inside { result.pc < length question.now.program.now }
+fn end_of<P: Allocator>(question: &Question<'_, P>, item: &Captured<'_>) -> Decided
+    ensures decided { result ≡ decided (machine_in question.now) (record_of item.now) }
+    ensures inside { IsInside (length question.now.program.now) result }
 {
     let _sound = question.program.len();
     let task = Task {
@@ -50,8 +51,8 @@ fn end_of<P: Allocator>(question: &Question<'_, P>, item: &Captured<'_>) -> Ende
         packet: packet_of(item),
         values: question.values,
     };
-    let end = end_of_packet(&mut Meter::new(), &task);
-    Ended::of(item.number, &end)
+    let decided = decided_end(&mut Meter::new(), &task);
+    Decided::of(Ended::of(item.number, &decided.end), decided.choice)
 }
 
 /// How a packet ends, with its instructions counted.
@@ -85,7 +86,7 @@ pub(crate) fn add_ended<P: Allocator, A: Allocator + Copy>(
     counted: &mut Counted<A>,
     item: &Captured<'_>,
 )
-    requires counts { (spec.counts_groups question.now.report ≡ true) × (spec.counts_runs question.now.report ≡ false) }
+    requires summary { question.now.report ≡ Summary }
     requires took { (records : List Record) × spec.Took question.now counted.old records × (length records + 1 < 2 ^ 64) }
     ensures { (records : List Record) → spec.Took question.now counted.old records
         → spec.Took question.now counted.new (records ++ record_of item.now ∷ []) }
@@ -105,5 +106,5 @@ pub(crate) fn add_counted<P: Allocator, A: Allocator + Copy>(
         → spec.Took question.now counted.new (records ++ record_of item.now ∷ []) }
 {
     let ended = count_packet(question, &mut counted.tally, item);
-    counted.groups.add(ended);
+    counted.groups.add(Decided { ended, by: None });
 }

@@ -65,7 +65,7 @@ fn write_end<W: Write>(w: &mut W, block: u32, group: Group) -> Result<(), WriteF
     ensures { Wrote (W.contents w.old) (W.contents w.new) result (spec.group_end block group) }
 {
     match group.first {
-        Some(first) => write_end_edge(w, block, group.count, first),
+        Some(first) => write_end_edge(w, block, group.count, first.ended),
         None => Ok(()),
     }
 }

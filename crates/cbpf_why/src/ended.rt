@@ -3,9 +3,10 @@
 ghost use Rattle.std.specs.Prelude.{◌≡◌, ◌≤◌, ◌+◌, ◌++◌, length};
 ghost use Rattle.cbpf_code.specs.declared.writing.TheConstants.{LINE_SIZE};
 ghost use Rattle.cbpf_why.specs.Ends as spec;
+ghost use Rattle.cbpf_why.specs.Groups as groups;
 
 use cbpf_code::{Line, ext_name};
-use cbpf_machine::{End, Outcome, PacketEnd};
+use cbpf_machine::{Choice, End, Outcome, PacketEnd};
 
 /// What a packet's end means for the packet.
 #[derive(Clone, Copy, Debug, PartialEq, Eq)]
@@ -53,6 +54,45 @@ impl Ended {
     }
 }
 
+/// A packet that ended, and the conditional jump that decided it, if one did.
+#[derive(Clone, Copy, Debug, PartialEq, Eq)]
+pub(crate) struct Decided {
+    /// How it ended.
+    pub(crate) ended: Ended,
+    /// The last conditional jump before its return.
+    pub(crate) by: Option<Choice>,
+}
+
+impl Decided {
+    /// A packet that ended, by its last conditional jump.
+    #[inline(always)]
+    pub(crate) fn of(ended: Ended, choice: Option<Choice>) -> Decided
+        ensures { result ≡ record { ended = ended; by = spec.deciding ended.reason choice } }
+    {
+        let by = match ended.reason {
+            End::Returned(_) => choice,
+            End::Outside => None,
+            End::ZeroDivisor => None,
+            End::Unknown(_) => None,
+        };
+        Decided { ended, by }
+    }
+
+    /// The row of its group.
+    #[inline(always)]
+    pub(crate) fn row(&self) -> usize
+        ensures { result ≡ groups.row self.now }
+    {
+        match self.by {
+            Some(choice) => {
+                let later = if choice.taken { 0 } else { 1 };
+                2 * choice.pc as usize + later
+            }
+            None => 2 * self.ended.pc as usize,
+        }
+    }
+}
+
 /// Puts the word for a verdict, of at most 7 bytes.
 pub(crate) fn prepend_verdict(line: &mut Line, verdict: Verdict)
     requires { length line.old + 7 ≤ LINE_SIZE }
@@ -95,4 +135,17 @@ pub(crate) fn prepend_reason_after(line: &mut Line, end: End)
     }
     prepend_reason(line, end);
     line.prepend(b", ");
+}
+
+/// Puts which way a conditional jump went, in at most 14 bytes.
+pub(crate) fn prepend_direction(line: &mut Line, taken: bool)
+    requires { length line.old + 14 ≤ LINE_SIZE }
+    ensures text { line.new ≡ spec.direction_text taken ++ line.old }
+    ensures grown { length line.new ≤ length line.old + 14 }
+{
+    line.prepend(if taken {
+        b", true, then "
+    } else {
+        b", false, then "
+    });
 }

@@ -6,7 +6,7 @@ ghost use Rattle.cbpf_machine.specs.Machine.{Machine};
 ghost use Rattle.cbpf_reply.specs.Packet.{texts_from};
 ghost use Rattle.pcap_classic.specs.Records.{Record};
 ghost use Rattle.cbpf_why.specs.CountedProgram.{HasAllCounts, IsCounted};
-ghost use Rattle.cbpf_why.specs.Ends.{ends_of};
+ghost use Rattle.cbpf_why.specs.Ends.{alone_of};
 ghost use Rattle.cbpf_why.specs.Graph as spec;
 
 use crate::block_nodes::write_block_part;
@@ -58,14 +58,14 @@ impl<A: Allocator + Copy, P: Allocator> CountedProgram<'_, A, P> {
         requires inside { i < length self.now.program.now }
         requires block { block < length self.now.program.now }
         ensures { (m : Machine) (records : List Record) → IsCounted self.now m records
-            → block ≡ spec.block_of m.list i → result ≡ spec.facts_at m records (ends_of m records) i }
+            → block ≡ spec.block_of m.list i → result ≡ spec.facts_at m records (alone_of m records) i }
     {
         Facts {
             runs: self.runs[i as usize],
             block_runs: self.runs[block as usize].executed,
-            passed: self.groups.at(Verdict::Pass, i),
-            failed: self.groups.at(Verdict::Fail, i),
-            unknown: self.groups.at(Verdict::Unknown, i),
+            passed: self.groups.at(Verdict::Pass, 2 * i as usize),
+            failed: self.groups.at(Verdict::Fail, 2 * i as usize),
+            unknown: self.groups.at(Verdict::Unknown, 2 * i as usize),
         }
     }
 
@@ -88,7 +88,7 @@ fn write_blocks<W: Write, A: Allocator + Copy, P: Allocator>(
     requires { HasAllCounts counted.now }
     ensures { (m : Machine) (records : List Record) → IsCounted counted.now m records
         → Wrote (W.contents w.old) (W.contents w.new) result
-        (texts_from (λ i. spec.block_part m.list i (spec.facts_at m records (ends_of m records) i))
+        (texts_from (λ i. spec.block_part m.list i (spec.facts_at m records (alone_of m records) i))
         0 (length m.list)) }
 {
     let mut block = 0;
@@ -108,7 +108,7 @@ fn write_ends<W: Write, A: Allocator + Copy, P: Allocator>(
     requires { HasAllCounts counted.now }
     ensures { (m : Machine) (records : List Record) → IsCounted counted.now m records
         → Wrote (W.contents w.old) (W.contents w.new) result
-        (texts_from (λ i. spec.end_part (spec.block_of m.list i) (spec.facts_at m records (ends_of m records) i))
+        (texts_from (λ i. spec.end_part (spec.block_of m.list i) (spec.facts_at m records (alone_of m records) i))
         0 (length m.list)) }
 {
     let mut block = 0;
@@ -126,7 +126,7 @@ pub(crate) fn write_graph<W: Write, A: Allocator + Copy, P: Allocator>(
 ) -> Result<(), WriteFault>
     requires { HasAllCounts counted.now }
     ensures { (m : Machine) (records : List Record) → IsCounted counted.now m records
-        → Wrote (W.contents w.old) (W.contents w.new) result (spec.graph_text m records (ends_of m records)) }
+        → Wrote (W.contents w.old) (W.contents w.new) result (spec.graph_text m records (alone_of m records)) }
 {
     write_bytes(
         w,

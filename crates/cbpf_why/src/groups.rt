@@ -1,32 +1,35 @@
 //! How packets ended, counted.
 
-ghost use Rattle.std.specs.Prelude.{◌≡◌, ◌<◌, ◌+◌, ◌^◌, ◌++◌, [], ◌∷◌, List, ℕ, length, IfSome, slice_get, replicate, IfOk, Some, None};
+ghost use Rattle.std.specs.Prelude.{◌≡◌, ◌<◌, ◌+◌, ◌*◌, ◌^◌, ◌++◌, [], ◌∷◌, List, ℕ, length, IfSome, slice_get, replicate, IfOk, Some, None};
 ghost use Rattle.cbpf_code.specs.Writing.{Wrote};
-ghost use Rattle.cbpf_why.specs.declared.ended.Ended.{Ended as AnEnded};
+ghost use Rattle.cbpf_why.specs.declared.ended.Decided.{Decided as ADecided};
 ghost use Rattle.cbpf_why.specs.declared.ended.Verdict.{Verdict as AVerdict};
 ghost use Rattle.cbpf_why.specs.Ends.{verdict_of};
 ghost use Rattle.cbpf_why.specs.Groups as spec;
 
-use crate::ended::{Ended, Verdict, prepend_reason_after, prepend_verdict};
+use crate::ended::{
+    Decided, Ended, Verdict, prepend_direction, prepend_reason_after, prepend_verdict,
+};
 use cbpf_code::{Line, Program, WriteFault, prepend_line};
+use cbpf_machine::Choice;
 use cbpf_reply::Counts;
 use std::alloc::{AllocError, Allocator};
 use std::io::Write;
 use std::marker::Model;
 
-/// Packets that ended at the same instruction with the same verdict.
+/// Packets in the same row with the same verdict.
 #[derive(Clone, Copy, Debug, PartialEq, Eq)]
 pub(crate) struct Group {
     /// How many there are.
     pub(crate) count: u64,
     /// The first of them.
-    pub(crate) first: Option<Ended>,
+    pub(crate) first: Option<Decided>,
 }
 
 impl Group {
     /// Adds a packet.
     #[inline(always)]
-    fn add(&mut self, ended: Ended)
+    fn add(&mut self, ended: Decided)
         requires { self.old.count + 1 < 2 ^ 64 }
         ensures { self.new ≡ spec.with_one self.old ended }
     {
@@ -43,19 +46,19 @@ const EMPTY: Group = Group {
     first: None,
 };
 
-/// Adds a packet to the group at its instruction.
+/// Adds a packet to the group in its row.
 #[inline(always)]
-fn add<A: Allocator>(groups: &mut Vec<Group, A>, ended: Ended)
-    requires inside { ended.pc < length groups.old.items }
-    requires few { (ends : List AnEnded) × (v : AVerdict) × spec.AreGroups ends v groups.old.items × (length ends + 1 < 2 ^ 64) }
-    ensures groups { (ends : List AnEnded) → spec.AreGroups ends (verdict_of ended.reason) groups.old.items
-        → spec.AreGroups (ends ++ ended ∷ []) (verdict_of ended.reason) groups.new.items }
+fn add<A: Allocator>(groups: &mut Vec<Group, A>, ended: Decided)
+    requires inside { spec.row ended < length groups.old.items }
+    requires few { (ends : List ADecided) × (v : AVerdict) × spec.AreGroups ends v groups.old.items × (length ends + 1 < 2 ^ 64) }
+    ensures groups { (ends : List ADecided) → spec.AreGroups ends (verdict_of ended.ended.reason) groups.old.items
+        → spec.AreGroups (ends ++ ended ∷ []) (verdict_of ended.ended.reason) groups.new.items }
     ensures long { length groups.new.items ≡ length groups.old.items }
 {
-    groups[ended.pc as usize].add(ended);
+    groups[ended.row()].add(ended);
 }
 
-/// How packets ended, by the verdict and the instruction.
+/// How packets ended, by the verdict and the row.
 #[derive(Drop)]
 pub(crate) struct Groups<A: Allocator> {
     passed: Vec<Group, A>,
@@ -65,10 +68,10 @@ pub(crate) struct Groups<A: Allocator> {
 }
 
 fn empty_groups<A: Allocator>(alloc: A, length: u32) -> Result<Vec<Group, A>, AllocError>
-    ensures { IfOk result (λ groups. groups.items ≡ replicate length (record { count = 0; first = None })) }
+    ensures { IfOk result (λ groups. groups.items ≡ replicate (2 * length) (record { count = 0; first = None })) }
 {
     let mut groups = Vec::new(alloc);
-    groups.resize(length as usize, EMPTY)?;
+    groups.resize(2 * length as usize, EMPTY)?;
     Ok(groups)
 }
 
@@ -104,11 +107,12 @@ impl<A: Allocator + Copy> Groups<A> {
 
     /// Adds a packet.
     #[inline(always)]
-    pub(crate) fn add(&mut self, ended: Ended)
-        requires { (n : ℕ) × (ends : List AnEnded) × spec.KeepsAll self.old n ends × (length ends + 1 < 2 ^ 64) × (ended.pc < n) }
-        ensures { (n : ℕ) (ends : List AnEnded) → spec.KeepsAll self.old n ends → spec.KeepsAll self.new n (ends ++ ended ∷ []) }
+    pub(crate) fn add(&mut self, ended: Decided)
+        requires { (n : ℕ) × (ends : List ADecided) × spec.KeepsAll self.old n ends × (length ends + 1 < 2 ^ 64) × spec.IsInside n ended }
+        ensures { (n : ℕ) (ends : List ADecided) → spec.KeepsAll self.old n ends → spec.IsInside n ended
+            → spec.KeepsAll self.new n (ends ++ ended ∷ []) }
     {
-        match ended.verdict() {
+        match ended.ended.verdict() {
             Verdict::Pass => {
                 self.totals.passes += 1;
                 add(&mut self.passed, ended);
@@ -124,15 +128,15 @@ impl<A: Allocator + Copy> Groups<A> {
         }
     }
 
-    /// The packets that ended at an instruction in a way.
-    pub(crate) fn at(&self, verdict: Verdict, i: u32) -> Group
+    /// The packets in a row with a verdict.
+    pub(crate) fn at(&self, verdict: Verdict, i: usize) -> Group
         requires { i < length (spec.by_verdict self.now verdict) }
         ensures { slice_get (spec.by_verdict self.now verdict) i ≡ Some result }
     {
         match verdict {
-            Verdict::Pass => self.passed[i as usize],
-            Verdict::Fail => self.failed[i as usize],
-            Verdict::Unknown => self.unknown[i as usize],
+            Verdict::Pass => self.passed[i],
+            Verdict::Fail => self.failed[i],
+            Verdict::Unknown => self.unknown[i],
         }
     }
 
@@ -144,15 +148,15 @@ impl<A: Allocator + Copy> Groups<A> {
     }
 }
 
-/// Writes the line of a group, by how many packets it has and the first of them.
-fn write_group_line<W: Write, P: Allocator>(
+/// Writes the line of a group that no jump decided, by how many packets it has and the first of them.
+fn write_ended_line<W: Write, P: Allocator>(
     w: &mut W,
     p: &Program<P>,
     count: u64,
     first: Ended,
 ) -> Result<(), WriteFault>
     requires { first.pc < length p.now }
-    ensures { Wrote (W.contents w.old) (W.contents w.new) result (spec.group_line p.now count first) }
+    ensures { Wrote (W.contents w.old) (W.contents w.new) result (spec.line_by p.now count first None) }
 {
     let mut line = Line::new();
     line.prepend(b"\n");
@@ -167,6 +171,48 @@ fn write_group_line<W: Write, P: Allocator>(
     line.write(w)
 }
 
+/// Writes the line of a group that a jump decided, by how many packets it has and the first of them.
+fn write_decided_line<W: Write, P: Allocator>(
+    w: &mut W,
+    p: &Program<P>,
+    count: u64,
+    first: Ended,
+    by: Choice,
+) -> Result<(), WriteFault>
+    requires pc { first.pc < length p.now }
+    requires by { by.pc < length p.now }
+    ensures { Wrote (W.contents w.old) (W.contents w.new) result (spec.line_by p.now count first (Some by)) }
+{
+    let mut line = Line::new();
+    line.prepend(b"\n");
+    line.prepend_u64(first.packet);
+    line.prepend(b", first packet ");
+    prepend_line(&mut line, p, first.pc);
+    prepend_direction(&mut line, by.taken);
+    prepend_line(&mut line, p, by.pc);
+    line.prepend(b" at ");
+    line.prepend_u64(count);
+    line.prepend(b" ");
+    prepend_verdict(&mut line, first.verdict());
+    line.write(w)
+}
+
+/// Writes the line of a group, by how many packets it has and the first of them.
+fn write_group_line<W: Write, P: Allocator>(
+    w: &mut W,
+    p: &Program<P>,
+    count: u64,
+    first: Decided,
+) -> Result<(), WriteFault>
+    requires { spec.IsInside (length p.now) first }
+    ensures { Wrote (W.contents w.old) (W.contents w.new) result (spec.group_line p.now count first) }
+{
+    match first.by {
+        Some(by) => write_decided_line(w, p, count, first.ended, by),
+        None => write_ended_line(w, p, count, first.ended),
+    }
+}
+
 /// Writes the line of a group, where it has packets.
 #[tactic(auto, using(cbpf_code::proofs::WrittenLemmas::three, cbpf_code::proofs::WrittenLemmas::steps))]
 fn write_group<W: Write, P: Allocator>(
@@ -174,7 +220,7 @@ fn write_group<W: Write, P: Allocator>(
     p: &Program<P>,
     group: Group,
 ) -> Result<(), WriteFault>
-    requires { IfSome group.first (λ e. e.pc < length p.now) }
+    requires { IfSome group.first (spec.IsInside (length p.now)) }
     ensures { Wrote (W.contents w.old) (W.contents w.new) result (spec.group_text p.now group) }
 {
     match group.first {
@@ -192,9 +238,9 @@ fn write_three<W: Write, P: Allocator>(
     failed: Group,
     unknown: Group,
 ) -> Result<(), WriteFault>
-    requires passed { IfSome passed.first (λ e. e.pc < length p.now) }
-    requires failed { IfSome failed.first (λ e. e.pc < length p.now) }
-    requires unknown { IfSome unknown.first (λ e. e.pc < length p.now) }
+    requires passed { IfSome passed.first (spec.IsInside (length p.now)) }
+    requires failed { IfSome failed.first (spec.IsInside (length p.now)) }
+    requires unknown { IfSome unknown.first (spec.IsInside (length p.now)) }
     ensures { Wrote (W.contents w.old) (W.contents w.new) result
         (spec.group_text p.now passed ++ (spec.group_text p.now failed ++ spec.group_text p.now unknown)) }
 {
@@ -203,16 +249,16 @@ fn write_three<W: Write, P: Allocator>(
     write_group(w, p, unknown)
 }
 
-/// Writes a line for each group at an instruction, those that passed before those that failed.
+/// Writes a line for each group in a row, those that passed before those that failed.
 fn write_groups_at<W: Write, A: Allocator + Copy, P: Allocator>(
     w: &mut W,
     p: &Program<P>,
     groups: &Groups<A>,
-    i: u32,
+    i: usize,
 ) -> Result<(), WriteFault>
-    requires inside { i < length p.now }
-    requires kept { (ends : List AnEnded) × spec.KeepsAll groups.now (length p.now) ends }
-    ensures { (ends : List AnEnded) → spec.KeepsAll groups.now (length p.now) ends
+    requires inside { i < 2 * length p.now }
+    requires kept { (ends : List ADecided) × spec.KeepsAll groups.now (length p.now) ends }
+    ensures { (ends : List ADecided) → spec.KeepsAll groups.now (length p.now) ends
         → Wrote (W.contents w.old) (W.contents w.new) result (spec.groups_at p.now ends i) }
 {
     let passed = groups.at(Verdict::Pass, i);
@@ -221,18 +267,18 @@ fn write_groups_at<W: Write, A: Allocator + Copy, P: Allocator>(
     write_three(w, p, passed, failed, unknown)
 }
 
-/// Writes a line for each group, in the program's order.
+/// Writes a line for each group, in the order of rows.
 #[tactic(auto, using(crate::proofs::TextLemmas::texts), unfolding(crate::specs::Groups::groups_text))]
 pub(crate) fn write_groups<W: Write, A: Allocator + Copy, P: Allocator>(
     w: &mut W,
     p: &Program<P>,
     groups: &Groups<A>,
 ) -> Result<(), WriteFault>
-    requires { (ends : List AnEnded) × spec.KeepsAll groups.now (length p.now) ends }
-    ensures { (ends : List AnEnded) → spec.KeepsAll groups.now (length p.now) ends
+    requires { (ends : List ADecided) × spec.KeepsAll groups.now (length p.now) ends }
+    ensures { (ends : List ADecided) → spec.KeepsAll groups.now (length p.now) ends
         → Wrote (W.contents w.old) (W.contents w.new) result (spec.groups_text p.now ends) }
 {
-    for i in 0..p.len() {
+    for i in 0..2 * p.len() as usize {
         write_groups_at(w, p, groups, i)?;
     }
     Ok(())

@@ -7,13 +7,13 @@ ghost use Rattle.cbpf_reply.specs.Counts.{finished_text};
 ghost use Rattle.pcap_classic.specs.Records.{AreNumbered, Record};
 ghost use Rattle.cbpf_why.specs.Chosen.{AreSorted};
 ghost use Rattle.cbpf_why.specs.Coverage.{coverage_text};
-ghost use Rattle.cbpf_why.specs.Ends.{ends_of};
+ghost use Rattle.cbpf_why.specs.Ends.{alone_of};
 ghost use Rattle.cbpf_why.specs.Graph.{graph_text};
-ghost use Rattle.cbpf_why.specs.Groups.{KeepsAll, groups_text, totals};
+ghost use Rattle.cbpf_why.specs.Groups.{KeepsAll, all_totals, groups_text};
 ghost use Rattle.cbpf_why.specs.Job as spec;
 ghost use Rattle.cbpf_why.specs.Question.{machine_in};
 ghost use Rattle.cbpf_why.specs.Reports as reports;
-ghost use Rattle.cbpf_why.specs.declared.ended.Ended.{Ended as AnEnded};
+ghost use Rattle.cbpf_why.specs.declared.ended.Decided.{Decided as ADecided};
 ghost use Rattle.cbpf_why.specs.declared.job.WhyFault.TheVariants as fault;
 
 use crate::blocks::block_begins;
@@ -73,11 +73,11 @@ fn write_summary<P: Allocator, A: Allocator + Copy, W: Write>(
     groups: &Groups<A>,
     end: Option<CaptureEnd>,
 ) -> Result<(), WriteFault>
-    requires { (ends : List AnEnded) × KeepsAll groups.now (length p.now) ends }
-    ensures { (ends : List AnEnded) → KeepsAll groups.now (length p.now) ends
+    requires { (ends : List ADecided) × KeepsAll groups.now (length p.now) ends }
+    ensures { (ends : List ADecided) → KeepsAll groups.now (length p.now) ends
         → Wrote (W.contents w.old) (W.contents w.new) result
         (groups_text p.now ends
-        ++ (finished_text (totals ends) ++ option_map_or reports.cut_line end [])) }
+        ++ (finished_text (all_totals ends) ++ option_map_or reports.cut_line end [])) }
 {
     write_groups(w, p, groups)?;
     write_finished(w, groups.totals())?;
@@ -96,13 +96,13 @@ fn write_counted_graph<P: Allocator, A: Allocator + Copy, W: Write>(
     counted: &Counted<A>,
 ) -> Result<(), WhyFault>
     requires { (records : List Record)
-        × KeepsAll counted.now.groups (length question.now.program.now) (ends_of (machine_in question.now) records)
+        × KeepsAll counted.now.groups (length question.now.program.now) (alone_of (machine_in question.now) records)
         × spec.Tallies counted.now.tally (machine_in question.now) records }
     ensures { (records : List Record)
-        → KeepsAll counted.now.groups (length question.now.program.now) (ends_of (machine_in question.now) records)
+        → KeepsAll counted.now.groups (length question.now.program.now) (alone_of (machine_in question.now) records)
         → spec.Tallies counted.now.tally (machine_in question.now) records
         → spec.Closed (W.contents w.old) (W.contents w.new) result
-        (graph_text (machine_in question.now) records (ends_of (machine_in question.now) records)) }
+        (graph_text (machine_in question.now) records (alone_of (machine_in question.now) records)) }
 {
     let Ok(begins) = block_begins(alloc, question.program) else {
         return Err(WhyFault::Memory);

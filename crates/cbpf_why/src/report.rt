@@ -3,7 +3,8 @@
 /// What is reported of a program on the packets of a capture.
 #[derive(Clone, Copy, Debug, PartialEq, Eq)]
 pub enum Report {
-    /// A line for each instruction and each verdict with which packets ended there, and how many passed and failed.
+    /// A line for each way of the last test of packets that returned and each verdict, and for each other instruction at
+    /// which packets ended; and how many passed and failed.
     Summary,
     /// The way of each packet: what it executed.
     Ways,

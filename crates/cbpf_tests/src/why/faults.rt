@@ -79,7 +79,7 @@ fn reads_that_fail(rt: HostRuntime) {
 /// The summaries of no packet, one and two.
 static SUMMARIES: [&[u8]; 3] = [
     b"bpf passes:0 fails:0\n",
-    b"pass 1 at l2:\tret #0xffffffff, first packet 1\nbpf passes:1 fails:0\n",
+    b"pass 1 at l1:\tjeq #0x806, l2, l3, true, then l2:\tret #0xffffffff, first packet 1\nbpf passes:1 fails:0\n",
     ARP_SUMMARY,
 ];
 

@@ -36,17 +36,17 @@ const SUMMARY: &[u8] = b"fail 1 at l0:\tldb [0], outside the packet, first packe
 fail 1 at l2:\tdiv x, division by 0, first packet 3\n\
 unknown 1 at l5:\tld mark, mark has no value, first packet 6\n\
 fail 1 at l10:\tldh [2], outside the packet, first packet 5\n\
-pass 2 at l12:\tret #0x40000, first packet 1\n\
-fail 1 at l13:\tret #0, first packet 2\n\
+pass 2 at l11:\tjeq #0x806, l12, l13, true, then l12:\tret #0x40000, first packet 1\n\
+fail 1 at l11:\tjeq #0x806, l12, l13, false, then l13:\tret #0, first packet 2\n\
 bpf passes:2 fails:4 unknown:1\n";
 
 /// `mark` is 7.
 const SUMMARY_MARKED: &[u8] = b"fail 1 at l0:\tldb [0], outside the packet, first packet 4\n\
 fail 1 at l2:\tdiv x, division by 0, first packet 3\n\
-pass 1 at l7:\tret a, first packet 6\n\
+pass 1 at l4:\tjgt #0x3, l5, l8, true, then l7:\tret a, first packet 6\n\
 fail 1 at l10:\tldh [2], outside the packet, first packet 5\n\
-pass 2 at l12:\tret #0x40000, first packet 1\n\
-fail 1 at l13:\tret #0, first packet 2\n\
+pass 2 at l11:\tjeq #0x806, l12, l13, true, then l12:\tret #0x40000, first packet 1\n\
+fail 1 at l11:\tjeq #0x806, l12, l13, false, then l13:\tret #0, first packet 2\n\
 bpf passes:3 fails:4\n";
 
 const WAYS: &[u8] = b"packet 1\n\
@@ -173,8 +173,9 @@ const FOUR: &[u8] = b"\xd4\xc3\xb2\xa1\x02\x00\x04\x00\x00\x00\x00\x00\x00\x00\x
 \x03\x00\x00\x00\x00\x00\x00\x00\x01\x00\x00\x00\x3c\x00\x00\x00\x05\
 \x04\x00\x00\x00\x00\x00\x00\x00\x01\x00\x00\x00\x3c\x00\x00\x00\x09";
 
-const RET_A_SUMMARY: &[u8] = b"pass 3 at l3:\tret a, first packet 1\n\
-fail 1 at l3:\tret a, first packet 2\n\
+const RET_A_SUMMARY: &[u8] = b"pass 2 at l1:\tjset #0x1, l3, l2, true, then l3:\tret a, first packet 3\n\
+pass 1 at l1:\tjset #0x1, l3, l2, false, then l3:\tret a, first packet 1\n\
+fail 1 at l1:\tjset #0x1, l3, l2, false, then l3:\tret a, first packet 2\n\
 bpf passes:3 fails:1\n";
 
 const RET_A_WAYS: &[u8] = b"packet 1\n\

@@ -3,10 +3,12 @@ use Rattle.std.specs.Prelude.{Option, Some, None}
 use Rattle.std.specs.Option.{option_eq}
 use Rattle.std.proofs.lemmas.Slice.Eq.{slice_eq-Decides}
 use Rattle.std.proofs.lemmas.Bool.Decides.{Decides-and}
+use Rattle.cbpf_machine.specs.declared.packet_end.Decided.{Decided}
 use Rattle.cbpf_machine.specs.declared.packet_end.PacketEnd.{PacketEnd}
 use Rattle.cbpf_machine.specs.declared.way.Way.{Way}
 use Rattle.cbpf_machine.specs.contracts.state.StatePartialEq.TheImpl as states
 use Rattle.cbpf_machine.specs.contracts.packet_end.PacketEndPartialEq.TheImpl as packet_ends
+use Rattle.cbpf_machine.specs.contracts.packet_end.DecidedPartialEq.TheImpl as decideds
 use Rattle.cbpf_machine.specs.contracts.way.WayPartialEq.TheImpl as ways
 use Rattle.cbpf_machine.proofs.equality.equal_where_same.Goals as goal
 
@@ -33,6 +35,18 @@ end-same a b = (
 
 pub returns-clause-packet_end : goal.returns-clause-packet_end
 returns-clause-packet_end c = end-same
+
+decided-by-field : (a b : Decided) → Decides (decideds.ghosts.eq a b) ((a.end ≡ b.end) × (a.choice ≡ b.choice))
+decided-by-field a b = Decides-and (packet_ends.ghosts.eq a.end b.end) _ (end-same a.end b.end) (search rules)
+
+whole-decided : (a b : Decided) → (a.end ≡ b.end) × (a.choice ≡ b.choice) → a ≡ b
+whole-decided a b e = search rules
+
+pub returns-clause-decided : goal.returns-clause-decided
+returns-clause-decided c a b = (
+  (λ e. whole-decided a b ((decided-by-field a b).0 e)),
+  λ e. (decided-by-field a b).1 (ap (λ s. s.end) e, ap (λ s. s.choice) e),
+)
 
 ways-by-field : (a b : Way) → Decides (ways.ghosts.eq a b) ((a.end ≡ b.end) × (a.test ≡ b.test))
 ways-by-field a b = Decides-and (packet_ends.ghosts.eq a.end b.end) _ (end-same a.end b.end) (search rules)

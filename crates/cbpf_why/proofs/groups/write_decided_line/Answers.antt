@@ -1,4 +1,4 @@
-use Rattle.cbpf_why.proofs.groups.write_group_line.Goals as goal
+use Rattle.cbpf_why.proofs.groups.write_decided_line.Goals as goal
 
 pub returns : goal.returns
 returns g c = rw (
@@ -6,8 +6,9 @@ returns g c = rw (
   c.prepend-4.ensures.text,
   c.prepend_u64-2.ensures.text,
   c.prepend-3.ensures.text,
+  c.prepend_line-2.ensures.text,
+  c.prepend_direction.ensures.text,
   c.prepend_line.ensures.text,
-  c.prepend_reason_after.ensures.text,
   c.prepend-2.ensures.text,
   c.prepend_u64.ensures.text,
   c.prepend.ensures.text,

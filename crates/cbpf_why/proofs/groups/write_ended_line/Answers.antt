@@ -1,0 +1,16 @@
+use Rattle.cbpf_why.proofs.groups.write_ended_line.Goals as goal
+
+pub returns : goal.returns
+returns g c = rw (
+  c.prepend_verdict.ensures.text,
+  c.prepend-4.ensures.text,
+  c.prepend_u64-2.ensures.text,
+  c.prepend-3.ensures.text,
+  c.prepend_line.ensures.text,
+  c.prepend_reason_after.ensures.text,
+  c.prepend-2.ensures.text,
+  c.prepend_u64.ensures.text,
+  c.prepend.ensures.text,
+  c.new-line.ensures,
+  c.verdict.ensures,
+) at c.write.ensures
