@@ -52,7 +52,7 @@ define LINKS
 endef
 export LINKS
 
-.PHONY: help build built unchanged rooted unreleased demo try test bench check install uninstall dist clean
+.PHONY: help build built unchanged rooted unreleased demo try test looked-up tried bench check install uninstall dist clean
 
 help: ## Lists the targets.
 	@grep -E '^[a-z]+:.*##' Makefile | sed -E 's/:.*## /\t/' | expand -t 12
@@ -67,9 +67,13 @@ demo: ## Proves and builds the program, assembles an example, and debugs a filte
 try: ## Runs the demonstration on a program that is built with no proof, in about a minute; keeps no program.
 	@python3 tools/try.py
 
-test: built ## Looks up whether CHANGES names what has changed; runs the end-to-end cases, sessions, the shell at a terminal, reports of why, verdicts, filters of the running kernel, the works of bench and the examples of the documents on the program that is built, and looks up the documents' names.
+test: looked-up tried ## Looks up whether CHANGES names what has changed, and the names in documents; runs the end-to-end cases, sessions, the shell at a terminal, reports of why, verdicts, filters of the running kernel, the works of bench and the examples of the documents on the program that is built.
+
+looked-up:
 	python3 tests/names.py
 	python3 tests/changes.py
+
+tried: built
 	python3 tests/run.py "$(PROGRAM)"
 	python3 tests/sessions.py "$(PROGRAM)"
 	python3 tests/shell.py "$(PROGRAM)"
@@ -83,12 +87,10 @@ test: built ## Looks up whether CHANGES names what has changed; runs the end-to-
 bench: built ## Measures the program that is built beside its peers, and writes the tables of bench/README.md and bench/growth.svg.
 	python3 bench/all.py
 
-check: ## The gate: proves all crates and their tests, tries the must-fail edits, runs all tests; for the first time on a machine in an hour or more on two processors, later in less, as only what changed and what stands above it is proved and tried.
-	python3 tests/names.py
-	python3 tests/changes.py
+check: looked-up ## The gate: proves all crates and their tests, tries the must-fail edits, runs all tests; for the first time on a machine in an hour or more on two processors, later in less, as only what changed and what stands above it is proved and tried.
 	@python3 tools/check.py
 	python3 tests/compile.py
-	@$(MAKE) --no-print-directory test
+	@$(MAKE) --no-print-directory tried
 
 built:
 	@test -x "$(PROGRAM)" || { echo 'There is no $(PROGRAM): `make build` proves and builds it.' >&2; exit 1; }

@@ -3,8 +3,8 @@
 
 usage: names.py
 
-The documents are README.md, CONTRIBUTING.md, docs/*.md, bench/*.md, tests/*.md, crates/*/README*, crates/*/CALLING.md
-and crates/*/must-fail/README.md. Each is read outside its blocks of code, and names what stands between backquotes:
+The documents are README.md, CONTRIBUTING.md, docs/*.md, bench/*.md, tests/*.md, crates/*/README* and
+crates/*/CALLING.md. Each is read outside its blocks of code, and names what stands between backquotes:
   a path           with a slash or a suffix of this repository's files: it is there, from the top, from crates/, from
                    the document's folder, from a crate of the heading or of the row, or in examples/. Below a heading
                    that is a crate's name, a file of code or definitions by its name alone stands in that crate, or in
@@ -14,9 +14,6 @@ and crates/*/must-fail/README.md. Each is read outside its blocks of code, and n
   a clause         in the column `clause` of docs/PROMISES.md: an `ensures` of the functions of its row, or a member of
                    a trait that the crate implements
   a definition     at the head of an item of docs/DEFINITIONS.md: it stands in a file that the item names
-  an edit          in the first column of a table of must-fail/README.md: its file is there, and each of its `old:`
-                   texts stands once where it says. Each edit has one row, whose function and clause are there, and
-                   whose goals have no answer below proofs/, unless it is named as `the answer of` one
   a call           in a block ```calls of docs/ARCHITECTURE.md: the function stands in the line's file
   a contract       in a block ```contracts of a CALLING.md, where a blank line parts them: it stands in the code of the
                    crate, with all its clauses, but for comments
@@ -34,16 +31,9 @@ What is there stands in the documents:
   a short form     of cbpf-shell: tests/shell.py, docs/REFERENCE.md and man/cbpf-shell.1 have it
   an extension     of the table: the lists in helps, completion, docs/REFERENCE.md and man/cbpf.1 have it, all of them,
                    or those of the ones that take a value
-  a case           a line of tests/shown.txt names it
   a type           that is public and has `==`: it has a clause in src/equality.rt of its crate
   a file           of src/ or specs/: it opens with a comment that says what it is about
-A line of tests/shown.txt is a sentence and, each after ` | `, what shows it, with texts between backquotes:
-  test C::M::F     the function F has #[test] in the module M of the crate C; a text stands in the file of M, of a
-                   module below M, or of one of the crate that M names
-  case D/N         the file D/N.case stands below tests/cases; a text stands in it, or beside it
-  edit C/N         the edit N of the crate C is there; a text stands in it
-  script N         the file tests/N is there, and the gate of the Makefile runs it; a text stands in it
-Blanks and line ends of a text and of a file may differ in number.
+A must-fail edit says in its first line what is wrong, and each of its `old:` texts stands once where it says.
 The last line is `N names, M failed`.
 """
 
@@ -86,12 +76,8 @@ STANDARD = set("grow shrink cmp partial_cmp madvise Display".split())
 OF_USERS = {"REFERENCE.md", "KERNEL_TOOLS.md", "PACKAGING.md"}
 CODE_SPAN = re.compile(r"(?<!`)`([^`]+)`(?!`)")
 NAME = re.compile(r"[A-Za-z_][\w]*(?:(?:::|\.)[A-Za-z_]\w*)*(?:\(.*\))?")
-SHOWN_BY = re.compile(r"(test|case|edit|script) ([\w:/.]+)((?: `[^`]+`)*)")
 # The words by which an item of docs/DEFINITIONS.md says that no public clause names its definitions.
 ONLY_PRIVATE = re.compile(r"[Oo]nly private functions cite ((?:these\b|them\b|it\b|`\w+`|[ ,]|and\b)+)")
-# A goal of a row of must-fail/README.md, and one that has an answer.
-GOAL = re.compile(r"(?<!answer of )`([a-z]\w*(?:-\w+)+)`")
-ANSWER = re.compile(r"^pub ([\w-]+) : goal\.", re.M)
 
 faults = []
 names = 0
@@ -180,14 +166,14 @@ def crates_in(text):
 
 
 def check_spans(path):
-    here = [path.parent.parent.name] if path.parent.name == "must-fail" else []
+    here = []
     of_crate = False
     for number, line in lines_of(path):
         if line.startswith("#"):
             above = crates_in(line)
             of_crate = re.match(r"#+ (\w+)(:|$)", line) is not None and above != []
             if line.startswith("## ") or above:
-                here = above or ([path.parent.parent.name] if path.parent.name == "must-fail" else [])
+                here = above
         near = here + crates_in(line)
         for span in CODE_SPAN.findall(line):
             if is_path(span):
@@ -284,71 +270,13 @@ def check_definitions(path):
             check(holds, path, number, f"no definition {name} in {', '.join(file.name for file in files)}")
 
 
-def test_files(name):
-    """The files in which a text of a test may stand; none where there is no such test."""
-    if "::" not in name:
-        return []
-    crate, *modules, function = name.split("::")
-    source = CRATES / crate / "src"
-    file, folder = source / "lib.rt", source
-    for module in modules:
-        if not file.is_file() or not re.search(rf"^(?:pub )?mod {module};", text_of(file), re.M):
-            return []
-        file, folder = folder / f"{module}.rt", folder / module
-    if not file.is_file() or not re.search(rf"#\[test\]\s*fn {function}\b", text_of(file)):
-        return []
-    files = [file, *sorted(folder.rglob("*.rt"))]
-    used = re.findall(r"\bcrate::(?:(\w+)|\{([^}]*)\})", "".join(map(text_of, files)))
-    return files + [source / f"{word}.rt" for names in used for word in re.findall(r"\w+", "".join(names))]
-
-
-def shown_files(kind, name):
-    """The files in which a text beside a name may stand; none where what the name stands for is not there."""
-    found = []
-    if kind == "test":
-        found = test_files(name)
-    elif kind == "edit":
-        found = [CRATES / f"{name.replace('/', '/must-fail/')}.edit"]
-    elif kind == "case":
-        found = [TOP / "tests/cases" / f"{name}.case"]
-    elif f" tests/{name}" in text_of(TOP / "Makefile").partition("\ntest:")[2]:
-        found = [TOP / "tests" / name]
-    return [file for file in found if file.is_file()]
-
-
-@cache
-def joined_by_blanks(path):
-    case = path.suffix == ".case"
-    text = b"\n==>\n".join(parts(path).values()).decode(errors="replace") if case else text_of(path)
-    return " ".join(text.split())
-
-
-def check_shown(path):
-    """Whether each line of the list says once what is shown, and by what that is there."""
-    sentences = set()
-    for number, line in enumerate(text_of(path).splitlines(), 1):
-        if not line or line.startswith("#"):
-            continue
-        sentence, *shown_by = line.split(" | ")
-        check(sentence not in sentences, path, number, f"stands twice: {sentence}")
-        check(bool(shown_by), path, number, f"nothing shows: {sentence}")
-        sentences.add(sentence)
-        for part in shown_by:
-            match = SHOWN_BY.fullmatch(part)
-            files = shown_files(match[1], match[2]) if match else []
-            check(bool(files), path, number, f"not there: {part}")
-            for text in CODE_SPAN.findall(match[3]) if files else []:
-                wanted = " ".join(text.split())
-                holds = any(wanted in joined_by_blanks(file) for file in files)
-                check(holds, path, number, f"no text {text} in {match[2]}")
-
-
-def check_edit(path, crate):
-    """Whether each of an edit's texts stands once in its file, as the edit before it left that."""
+def check_edit(path):
+    """Whether an edit says what is wrong, and each of its texts stands once in its file, as those before left that."""
+    check(not re.match("file:|old:|new:", text_of(path)), path, 1, "no line that says what is wrong")
     texts, target, old = {}, None, None
     for number, line in enumerate(text_of(path).splitlines(), 1):
         if line.startswith("file: "):
-            target = CRATES / crate / line.removeprefix("file: ")
+            target = path.parent.parent / line.removeprefix("file: ")
             check(target.is_file(), path, number, f"no {target.relative_to(TOP)}")
             texts.setdefault(target, text_of(target) if target.is_file() else "")
         elif line.startswith("old: ") and target:
@@ -359,36 +287,6 @@ def check_edit(path, crate):
             texts[target] = texts[target].replace(old, line.removeprefix("new:").removeprefix(" "))
             old = None
     check(bool(texts), path, 1, "no file")
-
-
-@cache
-def answers(crate, function):
-    """The goals of a function that have an answer."""
-    folders = [folder for folder in (CRATES / crate / "proofs").rglob(function) if folder.is_dir()]
-    return {goal for folder in folders for file in folder.glob("*.antt") for goal in ANSWER.findall(text_of(file))}
-
-
-def check_edits(path):
-    crate = path.parent.parent.name
-    rows = {}
-    for number, _, head, cells in tables(path):
-        if not head[0].startswith("edit"):
-            continue
-        for name in CODE_SPAN.findall(cells[0]):
-            rows.setdefault(name, []).append(number)
-            check((path.parent / f"{name}.edit").exists(), path, number, f"no edit {name}")
-        spans = [name for name in CODE_SPAN.findall(cells[-1]) if re.fullmatch(r"[A-Za-z][\w:]*", name)]
-        called = [name.split("::")[-1] for name in spans if name.split("::")[-1] in functions(crate)]
-        known = {*functions(crate), *members(crate)}.union(*(functions(crate)[f] for f in called))
-        if not called:
-            known |= all_clauses(crate) | words()
-        for name in spans:
-            check(name.split("::")[-1] in known, path, number, f"no function or clause {name} in {crate}")
-        for goal in GOAL.findall(cells[-1]):
-            check(not any(goal in answers(crate, f) for f in called), path, number, f"the goal {goal} has an answer")
-    for edit in sorted(path.parent.glob("*.edit")):
-        check(len(rows.get(edit.stem, [])) == 1, path, 1, f"{len(rows.get(edit.stem, []))} rows for {edit.name}")
-        check_edit(edit, crate)
 
 
 def check_calls(path):
@@ -597,39 +495,28 @@ def check_extensions():
             check(named in (every, with_value), TOP / place, line, "a list of extensions that isn't that of the table")
 
 
-def check_all_shown(path):
-    """Whether each case is named in the list of what is shown."""
-    named = set(re.findall(r" \| case ([\w/]+)", text_of(path)))
-    for case in sorted(CASES.rglob("*.case")):
-        name = str(case.with_suffix("").relative_to(CASES))
-        check(name in named, path, 1, f"no line of case {name}")
-
-
-# The checks of a document by its name, or by its folder's.
+# The checks of a document by its name.
 OF_ONE = {
     "PROMISES.md": [check_promises, check_called],
     "DEFINITIONS.md": [check_definitions, check_reached],
     "ARCHITECTURE.md": [check_crates],
     "CALLING.md": [check_contracts, check_listed, check_imports],
-    "must-fail": [check_edits],
 }
 
 
 def main():
-    for look_up in (check_shown, check_all_shown):
-        look_up(TOP / "tests/shown.txt")
     check_covered()
     check_short_forms()
     check_extensions()
     documents = [TOP / "README.md", TOP / "CONTRIBUTING.md"]
-    folders = "docs/*.md bench/*.md tests/*.md crates/*/README* crates/*/CALLING.md crates/*/must-fail/README.md"
+    folders = "docs/*.md bench/*.md tests/*.md crates/*/README* crates/*/CALLING.md"
     for pattern in folders.split():
         documents += sorted(TOP.glob(pattern))
     for path in documents:
-        for look_up in [check_spans, check_calls, *OF_ONE.get(path.name, []), *OF_ONE.get(path.parent.name, [])]:
+        for look_up in [check_spans, check_calls, *OF_ONE.get(path.name, [])]:
             look_up(path)
-    for folder in sorted(CRATES.glob("*/must-fail")):
-        check((folder / "README.md").exists(), folder, 1, "no README.md")
+    for edit in sorted(CRATES.glob("*/must-fail/*.edit")):
+        check_edit(edit)
     for library in sorted(CRATES.glob("*/src/lib.rt")):
         check_equality(library)
     check_heads()

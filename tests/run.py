@@ -3,8 +3,8 @@ r"""Runs the end-to-end cases over a built program.
 
 usage: run.py PROGRAM [NAME..]
 
-Each file NAME.case below tests/cases is a case. It has texts, each below a line `==> NAME <==`; after one without a newline at its
-end comes the line `\ No newline at end of file`. What is no such text lies in a folder beside it, by the same name. The
+Each file NAME.case below tests/cases is a case. Its first lines say what it shows. Then it has texts, each below a line
+`==> NAME <==`; after one without a newline at its end comes the line `\ No newline at end of file`. What is no such text lies in a folder beside it, by the same name. The
 program runs in a new folder, with
   stdin    what it reads (none: nothing)
   args     its arguments, one a line

@@ -2,7 +2,8 @@
 """Runs the gate of the toolchain, `rt ci`, and says before each of its steps how long it has run.
 
 What `rt ci` prints goes through as it is, but a line of a step has the time in front: a crate that is proved, its
-tests, and a crate whose must-fail edits are at work. It ends as `rt ci` ends.
+tests, and a crate whose must-fail edits are at work. It ends as `rt ci` ends, and fails too where an edit can't be
+applied or compiled, which `rt ci` only counts.
 
 Each check of a crate or an edit gets one processor, and one runs on each: two processors make one check hardly
 faster, and two checks at once are. RT_JOBS says another number of checks at a time.
@@ -14,19 +15,10 @@ import shutil
 import subprocess
 import sys
 import time
-from pathlib import Path
 
-from build import record, sources
+from build import ROOT, checks_at_a_time, record, sources
 
-ROOT = Path(__file__).resolve().parent.parent
-# The most memory that a check takes, with room to spare.
-CHECK_NEEDS = 5 << 30
 STEP = re.compile(r"rt: (\w+)(: its tests are)? (proved|NOT PROVED|ran)|rt: (\w+): trying its must-fail edits")
-
-
-def checks_at_a_time():
-    memory = os.sysconf("SC_PHYS_PAGES") * os.sysconf("SC_PAGE_SIZE")
-    return max(1, min(len(os.sched_getaffinity(0)), memory // CHECK_NEEDS))
 
 
 def main():
@@ -38,6 +30,7 @@ def main():
     print(f"{crates} crates to prove, then their tests, and {edits} must-fail edits to refuse.", flush=True)
     built_from = sources()
     began = time.time()
+    bad = 0
     with subprocess.Popen(
         ["rt", "ci"],
         cwd=ROOT,
@@ -52,6 +45,9 @@ def main():
             minutes, seconds = divmod(int(time.time() - began), 60)
             passed = f"[{minutes}:{seconds:02}] " if STEP.match(line) else ""
             print(passed + line, end="", flush=True)
+            bad += "BAD EDIT" in line
+    if bad:
+        sys.exit(f"{bad} must-fail edits can't be applied or compiled.")
     if not rt.returncode:
         record(built_from)
     sys.exit(rt.returncode)

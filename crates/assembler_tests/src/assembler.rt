@@ -177,6 +177,9 @@ fn is_long_answered(
     }
 }
 
+/// A conditional jump over 255 instructions has the offset 255.
+/// A conditional jump over 256 instructions is A9 on its line.
+/// The 4097th instruction is A10 on its line.
 #[test]
 fn far_jumps_and_many_instructions(rt: HostRuntime) {
     for (row, (first, between, last, wanted)) in LONG.iter().enumerate() {

@@ -285,6 +285,7 @@ fn worked_sources(rt: HostRuntime) {
     options(&rt);
 }
 
+/// Another number in place of the 4 or the 15 is A4.
 #[test]
 fn each_refusal(rt: HostRuntime) {
     for (row, (source, fault)) in FAULTS.iter().enumerate() {

@@ -39,6 +39,7 @@ fn assert_decimals(rt: &impl Test, n: u128) {
     assert_decimal(rt, n.wrapping_add(1));
 }
 
+/// `write_decimal` writes each power of ten and of two, and the numbers beside them, up to the greatest of 128 bits.
 #[test]
 fn powers_of_ten_and_of_two(rt: HostRuntime) {
     let mut power: u128 = 1;
@@ -77,6 +78,7 @@ fn assert_hex_of_each_length(rt: &impl Test, n: u32) {
     }
 }
 
+/// `write_hex` writes numbers of each length with each least number of digits, 1 to 8.
 #[test]
 fn hexadecimals_of_each_length(rt: HostRuntime) {
     for bit in 0..32u32 {
@@ -99,6 +101,7 @@ static PARTS: [&[u8]; 40] = [
 static JOINED: &[u8] =
     b"02,34five67\n8101112131415161718192021222324252627282930313233343536373839";
 
+/// `write_parts` writes 40 parts.
 #[test]
 fn forty_parts(rt: HostRuntime) {
     let mut text = Vec::new(rt.alloc());

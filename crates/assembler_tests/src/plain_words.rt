@@ -146,6 +146,8 @@ fn texts_of_length(rt: &impl Test, length: usize, count: u32) {
     }
 }
 
+/// Every word text of at most five bytes over `0`, `6`, a comma, a blank and `;` is read as a plain reading of the
+/// rules reads it.
 #[test]
 fn every_short_text(rt: HostRuntime) {
     for (length, count) in LENGTHS {

@@ -16,6 +16,7 @@ fn assert_shown<D: Display + Drop>(rt: &impl Test, value: D, text: &str) {
     );
 }
 
+/// What a fault says is shown by `{}` without `error: `.
 #[test]
 fn faults_of_programs(rt: HostRuntime) {
     assert_shown(&rt, CheckFault::NoInstruction, "C1 no instruction");
@@ -50,6 +51,7 @@ fn faults_of_programs(rt: HostRuntime) {
     );
 }
 
+/// What a fault says is shown by `{}` without `error: `.
 #[test]
 fn faults_of_words_and_sources(rt: HostRuntime) {
     assert_shown(

@@ -160,6 +160,7 @@ fn each_fault(rt: HostRuntime) {
     }
 }
 
+/// The tokens of `ld #0x5` are a word from 0 to 2, the mark `#` from 3 to 4, and the number 5 from 4 to 7.
 #[test]
 fn each_place(rt: HostRuntime) {
     let placed = [(WORD, 0, 2), (HASH, 3, 4), (Kind::Number(5), 4, 7)];

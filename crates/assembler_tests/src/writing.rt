@@ -64,6 +64,7 @@ fn has_forms(rt: &impl Test, list: &[Insn], words: &[u8], c: &[u8]) -> bool {
     text.as_slice() == words && c_text.as_slice() == c && back.as_slice() == list
 }
 
+/// The instruction 60000 65 7 9 is `{ 0xea60, 65,  7, 0x00000009 },` in C.
 #[test]
 fn forms_of_instructions(rt: HostRuntime) {
     for (row, (fields, words, c)) in LISTS.iter().enumerate() {

@@ -63,6 +63,7 @@ fn in_one_form(rt: &impl Test, form: Form, text: &[u8]) {
     none_fails(rt, form, text);
 }
 
+/// A read that fails at any place of a source leaves nothing written.
 #[test]
 fn each_read_or_flush_that_fails(rt: HostRuntime) {
     for (form, text) in &ARP_TEXTS {
@@ -132,6 +133,7 @@ fn each_source(rt: &impl Test, form: Form, text: &[u8]) {
     }
 }
 
+/// Each growth of `asm` is refused: it is out of memory, and nothing is written.
 #[test]
 fn each_refused_growth_leaves_nothing_written(rt: HostRuntime) {
     for (form, text) in &ARP_TEXTS {

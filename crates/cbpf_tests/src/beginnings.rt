@@ -92,6 +92,8 @@ fn each_beginning(rt: &impl Test, source: &[u8], answers: &[(usize, Answer)]) {
     assert!(rt; next == source.len().saturating_add(1));
 }
 
+/// Each beginning of a source is assembled or refused: those that end in a target's name, or in a beginning of one,
+/// are A7, and others that end inside an item A5.
 #[test]
 fn each_beginning_of_two_sources(rt: HostRuntime) {
     each_beginning(&rt, BRANCH, &BRANCH_ANSWERS);

@@ -13,6 +13,7 @@ fn assembles_to(rt: &impl Test, source: &[u8], words: &[u8]) {
     assert!(rt; reader.calls() > 700_000 && text.as_slice() == words);
 }
 
+/// A source of 700,000 bytes and more assembles where each read gives one byte.
 #[test]
 fn a_source(rt: HostRuntime) {
     let comment = b" ; seventeen bytes\n";
@@ -29,12 +30,14 @@ fn replies(rt: &impl Test, script: &[u8], wanted: &[u8]) {
     assert!(rt; reader.calls() > 700_000 && text.as_slice() == wanted);
 }
 
+/// A script's line of 700,000 bytes and more is read where each read gives one byte.
 #[test]
 fn a_line(rt: HostRuntime) {
     let line = repeated(&rt, b"load bpf ", b" \t", 350_000, b"1,6 0 0 1\n");
     replies(&rt, &line, b"bpf: 1 instructions\n");
 }
 
+/// 100,000 commands are answered where each read gives one byte.
 #[test]
 fn many_lines(rt: HostRuntime) {
     let lines = repeated(&rt, b"", b"hello\n\n", 100_000, b"mark\n");

@@ -80,6 +80,7 @@ fn each_beginning(rt: &impl Test, file: &[u8], chunk: usize) {
     }
 }
 
+/// The two packets, cut after each byte, are read record by record as they are read at once, one byte a read.
 #[test]
 fn each_beginning_of_two_packets(rt: HostRuntime) {
     each_beginning(&rt, two_packets::little_endian(), 1);
@@ -217,6 +218,7 @@ static ASKED: [(usize, u64); 6] = [
     (300_000, 131_072 + 262_144 + 524_288),
 ];
 
+/// A record that claims 4294967295 bytes asks for room only as its bytes come.
 #[test]
 fn a_record_that_claims_4_gb(rt: HostRuntime) {
     for (present, wanted) in &ASKED {
@@ -284,6 +286,7 @@ fn faults_at(rt: &impl Test, file: &[u8], call: u64, kind: ErrorKind) -> u32 {
     faults
 }
 
+/// After a read or a growth that fails the same record is read.
 #[test]
 fn one_read_fails(rt: HostRuntime) {
     let file = two_packets::big_endian();
@@ -336,6 +339,7 @@ fn refused_at(rt: &impl Test, file: &[u8], nth: u64) -> u32 {
     faults
 }
 
+/// After a read or a growth that fails the same record is read.
 #[test]
 fn each_growth_is_refused(rt: HostRuntime) {
     let bytes = of_lengths(&rt, &[5, 400_000, 7, 300_000, 600_000, 9]);
@@ -383,6 +387,7 @@ fn goes_on(rt: &impl Test, file: &[u8], length: usize) -> bool {
         && ends(&mut reader, whole.ending())
 }
 
+/// A source that has grown after its end is read on.
 #[test]
 fn a_source_that_grows_after_its_end(rt: HostRuntime) {
     let file = two_packets::little_endian();

@@ -35,6 +35,7 @@ fn assert_total(rt: &impl Test, n: u128) {
     assert!(rt; is_wanted, "{n}");
 }
 
+/// The total of stops is written at each power of ten and of two, also above 2 to the 64.
 #[test]
 fn totals_of_each_length(rt: HostRuntime) {
     let mut power: u128 = 1;
@@ -111,6 +112,7 @@ fn assert_unknown(rt: &impl Test, unknown: u64) {
     assert_written(rt, wrote, &text, &numbers, unknown);
 }
 
+/// Places, counts and limits are written at each power of two up to the greatest number of 64 bits.
 #[test]
 fn places_and_counts_of_each_length(rt: HostRuntime) {
     for bit in 0..64u32 {

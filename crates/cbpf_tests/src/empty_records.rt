@@ -20,6 +20,7 @@ fn empty_records(rt: &impl Test, count: u32) -> Vec<u8> {
 /// Numbers of records, and how many starts are kept of them.
 static MARKS: [(u32, usize); 4] = [(130, 3), (65, 2), (64, 1), (0, 0)];
 
+/// Of 130 records of no bytes 3 starts are kept, of 65 two, of 64 one, and of none none.
 #[test]
 fn starts_that_are_kept(rt: HostRuntime) {
     for (count, marks) in &MARKS {
@@ -70,6 +71,9 @@ fn assert_run<T: Trail>(rt: &impl Test, trail: T, capture: Capture) {
     assert!(rt; run(&mut s) == Some((130, 0, 130)));
 }
 
+/// 130 records of no bytes, in a file of 2104 bytes: record 65 starts at 1048, and record 130 at 2088.
+/// Record 65 follows record 64, and none follows record 130.
+/// A run over 130 records of no bytes passes them all by 130 turns.
 #[test]
 fn a_capture_of_130_records(rt: HostRuntime) {
     let file = empty_records(&rt, 130);

@@ -13,6 +13,8 @@ fn assert_replies(rt: &impl Test, files: &mut MemoryFiles, script: &[u8], wanted
     assert!(rt; result == Ok(()) && writer.written() == wanted);
 }
 
+/// The first of two loads fails where it was chosen, and the second does not: F2, the packets, and F1 for another
+/// name.
 #[test]
 fn the_first_load_fails_alone(rt: HostRuntime) {
     let mut files = two_packets_as_k(&rt);
@@ -49,6 +51,7 @@ fn loads(rt: &impl Test, files: &mut impl Files, name: &str) {
     assert!(rt; files.load(rt.alloc(), name).is_ok());
 }
 
+/// A load succeeds after forty others failed, of a file in memory and of a file of the system.
 #[test]
 fn a_load_after_forty_failures(rt: HostRuntime) {
     let mut files = two_packets_as_k(&rt);

@@ -55,6 +55,8 @@ fn none_fails(rt: &impl Test) {
     }
 }
 
+/// The ARP filter is loaded from its words and dumped as four lines of C.
+/// A read that fails at the first byte of the line `dump` leaves the reply to the line before it.
 #[test]
 fn each_read_that_fails_leaves_the_replies_to_the_whole_lines_before_it(rt: HostRuntime) {
     for kind in ERROR_KINDS {

@@ -64,6 +64,8 @@ fn load_again_and_again<T: Trail, A: Allocator + Copy>(
     }
 }
 
+/// Loads again and again, and breakpoints that are set and taken out, hold no more memory, and a session that is
+/// dropped none.
 #[test]
 fn loads_and_breakpoints_of_a_session(rt: HostRuntime) {
     let counting = FaultyAllocator::new(rt.alloc(), 0);
@@ -144,6 +146,7 @@ static CALLS: [(Call, bool); 29] = [
     (Call::Filter(b"2,6 0 0 1,5 0 0 0"), true),
 ];
 
+/// Refused words, programs, captures and sources give back what they asked for.
 #[test]
 fn answers_and_refusals(rt: HostRuntime) {
     let counting = FaultyAllocator::new(rt.alloc(), 0);
@@ -161,6 +164,7 @@ fn is_loaded<F: Files>(files: &mut F, alloc: &FaultyAllocator<Global>, name: &st
     files.load(alloc, name).is_ok()
 }
 
+/// Loads of files give back what they asked for.
 #[test]
 fn loads_of_files(rt: HostRuntime) {
     let counting = FaultyAllocator::new(rt.alloc(), 0);
@@ -231,6 +235,7 @@ fn run(rt: &impl Test, reader: &mut NotingReader<'_>) {
     assert!(rt; debug(reader.counting, reader, &mut replies, &mut files) == Ok(()));
 }
 
+/// A debugger that loads again and again, also in vain, holds no more memory, and at its end none.
 #[test]
 fn commands_of_a_script(rt: HostRuntime) {
     let counting = FaultyAllocator::new(rt.alloc(), 0);
@@ -245,6 +250,7 @@ fn commands_of_a_script(rt: HostRuntime) {
     assert!(rt; counting.held() == 0);
 }
 
+/// An assembler gives back what it asked for.
 #[test]
 fn sources(rt: HostRuntime) {
     let counting = FaultyAllocator::new(rt.alloc(), 0);
@@ -267,6 +273,7 @@ fn unflushable() -> FaultyWriter<64> {
     writer
 }
 
+/// An assembler and a debugger whose last flush fails give back what they asked for.
 #[test]
 fn after_a_last_flush_that_failed(rt: HostRuntime) {
     let counting = FaultyAllocator::new(rt.alloc(), 0);

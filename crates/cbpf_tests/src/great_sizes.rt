@@ -24,6 +24,7 @@ fn refusal_of(list: Vec<Insn>) -> Option<CheckFault> {
     }
 }
 
+/// Word text of 50,000 instructions is read where there is memory, and refused by C2.
 #[test]
 fn word_text_of_50000_instructions(rt: HostRuntime) {
     let words = words_of_50000(&rt, b"50000,");
@@ -43,6 +44,7 @@ fn replies(rt: &impl Test, script: &[u8], chunk: usize, wanted: &[u8])
     assert!(rt; text.as_slice() == wanted);
 }
 
+/// Lines of three million bytes and of 50,000 instructions are read where there is memory.
 #[test]
 fn lines_of_three_million_bytes_and_of_50000_instructions(rt: HostRuntime) {
     let line = repeated(&rt, b"load bpf ", b" \t", 1_500_000, b"1,6 0 0 1\n");
@@ -89,6 +91,7 @@ fn are_both_of_each(rt: &impl Abort, stops: &[Stop]) {
     }
 }
 
+/// A run to the end finds 50,000 stops where there is memory.
 #[test]
 fn a_run_to_the_end_with_50000_stops(rt: HostRuntime) {
     let mut session = session_of_25000(&rt);
@@ -99,6 +102,7 @@ fn a_run_to_the_end_with_50000_stops(rt: HostRuntime) {
     are_both_of_each(&rt, &stops);
 }
 
+/// A list of two million tokens is made where there is memory.
 #[test]
 fn two_million_tokens(rt: HostRuntime) {
     let source = repeated(&rt, b"", b"tax\n", 2000000, b"");
@@ -157,6 +161,8 @@ fn is_there(rt: &impl Test, files: &mut MemoryFiles, n: u32) {
     assert_named(rt, bytes.as_slice() == wanted.as_slice(), "the bytes", n);
 }
 
+/// 1000 files with long names, one of 40,950 bytes, and one file of ten million bytes are put and loaded in memory
+/// where there is memory.
 #[test]
 fn a_thousand_files_with_long_names(rt: HostRuntime) {
     let mut files = MemoryFiles::new(rt.alloc());

@@ -21,6 +21,7 @@ fn step<T: Trail>(rt: &impl Test, trail: T) -> Option<Place> {
     }
 }
 
+/// A step over thousands of packets keeps few entries.
 #[test]
 fn a_step_over_thousands_of_packets_keeps_few_entries(rt: HostRuntime) {
     let given = Cell::new(0u64);

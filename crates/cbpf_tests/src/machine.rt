@@ -208,6 +208,9 @@ fn others_ask_for_none() -> bool {
         && asked(&none, 32, 4294963240).is_none()
 }
 
+/// A load at the place of rand asks for rand, of a word as of a half word and a byte.
+/// A load at X + k never asks for an extension, also where the sum is its number and it has a value.
+/// Nla, nlan, poff and rand take no value, and the other eleven take one.
 #[test]
 fn extensions_without_and_with_values(rt: HostRuntime) {
     assert_loads_without_values(&rt);

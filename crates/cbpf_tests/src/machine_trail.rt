@@ -298,6 +298,7 @@ fn check_trail<T: Trail>(rt: &impl Test, trail: &mut T, p: &Program, keeps_all: 
     check_onward(rt, trail, p);
 }
 
+/// A step back over a checkpoint, from (1,65) to (1,64), takes exactly 63 turns.
 #[test]
 fn trails_of_4096_entries(rt: HostRuntime) {
     let p = counting(&rt);

@@ -207,6 +207,7 @@ fn assert_unopened(rt: &impl Abort, outcome: Result<(), Failure>, name: &str) {
     assert!(rt; is_of_name && status_of(&outcome) == ExitCode::FAILURE);
 }
 
+/// On a machine in memory, an input that is missing leaves no output created.
 #[test]
 fn an_input_that_is_missing_leaves_no_output_created(rt: HostRuntime) {
     let mut host = machine(&rt, rt.alloc());
@@ -218,6 +219,7 @@ fn an_input_that_is_missing_leaves_no_output_created(rt: HostRuntime) {
     assert!(rt; has_entries(&host.log, &[("not opened", b"gone", b"")]));
 }
 
+/// On a machine in memory, an output that can't be created ends the job with its name.
 #[test]
 fn an_output_that_is_not_created_ends_the_job(rt: HostRuntime) {
     let mut host = machine(&rt, rt.alloc());
@@ -229,6 +231,7 @@ fn an_output_that_is_not_created_ends_the_job(rt: HostRuntime) {
     assert!(rt; has_entries(&host.log, &wanted));
 }
 
+/// On a machine in memory, the replies stand in the output that is named.
 #[test]
 fn the_replies_stand_in_the_output_file(rt: HostRuntime) {
     let mut host = machine(&rt, rt.alloc());
@@ -243,6 +246,7 @@ fn the_replies_stand_in_the_output_file(rt: HostRuntime) {
     assert!(rt; has_entries(&host.log, &wanted));
 }
 
+/// On a machine in memory, `-` is the name of a file, and no name the standard input.
 #[test]
 fn a_minus_is_the_name_of_a_file_and_no_name_the_standard_input(rt: HostRuntime) {
     let mut host = machine(&rt, rt.alloc());
@@ -272,6 +276,7 @@ fn assert_fault<A: Allocator + Copy, B: Allocator + Copy>(
     assert!(rt; is_wanted && status_of(&outcome) == ExitCode::FAILURE);
 }
 
+/// On a machine in memory, a fault of memory or of writing is no success.
 #[test]
 fn a_fault_of_memory_or_of_writing_is_no_success(rt: HostRuntime) {
     let alloc = rt.alloc();

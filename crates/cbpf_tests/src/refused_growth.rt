@@ -167,6 +167,7 @@ fn end_over_a_slice(rt: &impl Test, nth: u64) -> (usize, bool) {
     (end_of(answer, &room[..written]), alloc.left() == 0)
 }
 
+/// Each growth of a script over a slice as writer is refused, and it ends in one of four ways, each of which is met.
 #[test]
 fn each_growth_over_a_slice(rt: HostRuntime) {
     let mut met = [false; 4];

@@ -19,6 +19,7 @@ fn assert_shown<D: Display + Drop>(rt: &impl Test, value: D, text: &str) {
     );
 }
 
+/// What a fault says is shown by `{}` without `error: `.
 #[test]
 fn faults_of_sessions(rt: HostRuntime) {
     assert_shown(&rt, SessionFault::NoProgram, "S1 no program");
@@ -46,6 +47,7 @@ fn faults_of_lines_and_files(rt: HostRuntime) {
     assert_shown(&rt, LoadFault::Memory, "out of memory");
 }
 
+/// What a fault says is shown by `{}` without `error: `.
 #[test]
 fn faults_of_captures(rt: HostRuntime) {
     assert_shown(&rt, CaptureFault::FileHeaderCut, "P1 file header is cut");

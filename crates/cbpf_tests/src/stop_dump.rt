@@ -47,6 +47,7 @@ const SLOTS: &[u8] = b"20,0 0 0 7,2 0 0 0,2 0 0 1,2 0 0 3,2 0 0 4,2 0 0 5,0 0 0 
 0 0 0 10,2 0 0 10,2 0 0 11,2 0 0 12,0 0 0 2748,2 0 0 13,2 0 0 14,2 0 0 15,\
 1 0 0 4026531840,0 0 0 4294967295,32 0 0 4294963256,22 0 0 0";
 
+/// A scratch line is the longest run of neighbouring slots of equal value, and a run of one has one index.
 #[test]
 fn slots_are_shown_as_longest_runs(rt: HostRuntime) {
     let packet = Packet {
@@ -80,6 +81,7 @@ len: 0 wire: 4294967295\n\
     assert!(rt; text.as_slice() == wanted.as_slice());
 }
 
+/// A seventeenth byte has a line of its own.
 #[test]
 fn a_seventeenth_byte_has_a_row_of_its_own(rt: HostRuntime) {
     let bytes = b"\x00\x01\x09\x0a\x0f\x10\x1f\x7f\x80\x99\x9a\xa0\xaf\xf0\xfe\xff\xc3";
@@ -118,6 +120,7 @@ static OFFSETS: [(usize, &[u8]); 4] = [
     (100000, b"\n100000: 2a 00\n(breakpoint)\n"),
 ];
 
+/// The offset of a line is right in 5 places, and wider from 100000 on.
 #[test]
 fn offsets_are_right_in_five_places(rt: HostRuntime) {
     for (zeros, end) in &OFFSETS {

@@ -243,6 +243,7 @@ fn each_reply_is_flushed_before_the_next_read_or_nothing_more_is_read(rt: HostRu
 /// Lines that have no reply.
 static SILENT: [Exchange; 3] = [(b"\n", Short, 0), (b" \n", Short, 0), (b"quit\n", Short, 0)];
 
+/// A script without replies is flushed before `Ok`.
 #[test]
 fn a_script_without_replies_is_flushed_too(rt: HostRuntime) {
     each_flush(&rt, &SILENT);
@@ -306,6 +307,7 @@ fn run_at_once(rt: &impl Test, script: &[u8], wanted: &[u64], failing: usize) {
     check(rt, outcome, &writer, wanted, (SCRIPT.len(), failing));
 }
 
+/// The replies so far go out before a command that may take long.
 #[test]
 fn replies_are_flushed_before_a_command_that_may_take_long(rt: HostRuntime) {
     let script = lines_of(&rt, &SCRIPT);

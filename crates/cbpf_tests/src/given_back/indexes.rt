@@ -41,6 +41,8 @@ fn index_of<A: Allocator + Copy>(
     )
 }
 
+/// The index of a capture asks for four places of 8 bytes, and for twice as many each time that it has more than 64
+/// records for each; it holds the last ones, and asks for nothing else beside the file.
 #[test]
 fn room_for_the_index_of_a_capture(rt: HostRuntime) {
     for (records, asked, held) in INDEXES.iter() {

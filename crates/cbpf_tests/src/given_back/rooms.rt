@@ -11,6 +11,7 @@ use pcap_classic::CaptureReader;
 use std::alloc::{Allocator, Global};
 use std::process::Abort;
 
+/// A trail of all states asks for exactly the room of 4096 states.
 #[test]
 fn room_for_a_list_of_states(rt: HostRuntime) {
     let counting = FaultyAllocator::new(rt.alloc(), 0);
@@ -123,6 +124,8 @@ fn assert_room<A: Allocator + Copy>(
     assert_named(rt, is_wanted, "the room of breakpoints", count);
 }
 
+/// The first breakpoint asks for 8 bytes an instruction and 320 more at most, and breakpoints at all instructions for
+/// 80 bytes each beside these, of which they hold 48.
 #[test]
 fn room_for_breakpoints(rt: HostRuntime) {
     let counting = FaultyAllocator::new(rt.alloc(), 0);
