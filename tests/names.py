@@ -272,7 +272,7 @@ def check_definitions(path):
 
 def check_edit(path):
     """Whether an edit says what is wrong, and each of its texts stands once in its file, as those before left that."""
-    check(not re.match("file:|old:|new:", text_of(path)), path, 1, "no line that says what is wrong")
+    check(text_of(path).startswith("# "), path, 1, "no line that says what is wrong")
     texts, target, old = {}, None, None
     for number, line in enumerate(text_of(path).splitlines(), 1):
         if line.startswith("file: "):

@@ -1,8 +1,10 @@
 #!/usr/bin/env python3
 """Proves the crates below the program side by side, as crates.txt has them, builds the program, and says how far it is.
 
-A check with one job takes the least processor time, as each job loads the whole crate. So a crate gets more jobs only
-where processors would have nothing to do: the one on which the longest chain of crates waits gets them.
+Two runs of rt in a checkout wait for each other where a crate is below both. So each crate is proved in a folder of its
+own, which has it and the crates below it, and what was made of it goes back to the checkout. A check with one job takes
+the least processor time, as each job loads the whole crate. So only the crate for which most others wait gets more, as
+many as there are processors without work.
 """
 
 import hashlib
@@ -11,6 +13,7 @@ import re
 import shutil
 import subprocess
 import sys
+import tempfile
 import time
 from pathlib import Path
 
@@ -25,8 +28,7 @@ no proofs, that takes 20 to 60 minutes of processor time, divided among the proc
 def checks_at_a_time():
     """How many checks this machine makes side by side: RT_JOBS, or one for each processor, as far as there is memory."""
     memory = os.sysconf("SC_PHYS_PAGES") * os.sysconf("SC_PAGE_SIZE")
-    most = max(1, min(len(os.sched_getaffinity(0)), memory // CHECK_NEEDS))
-    return int(os.environ.get("RT_JOBS", most))
+    return int(os.environ.get("RT_JOBS", max(1, min(len(os.sched_getaffinity(0)), memory // CHECK_NEEDS))))
 
 
 def sources():
@@ -41,84 +43,115 @@ def record(built_from):
     (program.parent / f"{PROGRAM}.sources").write_text(f"{built_from}{own}  -\n")
 
 
-def libraries_of(name):
-    """The crates that `name` and those below it stand on, by the crate."""
-    lines = (ROOT / "crates.txt").read_text().splitlines()
-    every = {head.split()[0]: tail.split() for head, tail in (line.split(":") for line in lines if re.match(r"\w", line))}
-    found = {}
-
-    def add(crate):
-        if crate not in found:
-            found[crate] = [library for library in every[crate] if library in every]
-            for library in found[crate]:
-                add(library)
-
-    add(name)
-    return found
+def crates_below(name, rows):
+    """A crate and all that it stands on, lowest first."""
+    found = []
+    for library in rows[name].split():
+        if library in rows:
+            found += [each for each in crates_below(library, rows) if each not in found]
+    return [*found, name]
 
 
-def heights(libraries):
-    """How long the longest chain of crates above each is."""
-    above = {crate: [other for other in libraries if crate in libraries[other]] for crate in libraries}
-
-    def height(crate):
-        return 1 + max(map(height, above[crate]), default=0)
-
-    return {crate: height(crate) for crate in libraries}
+def folder_of(crate):
+    return ROOT / "crates" / crate
 
 
-def begin(crate, jobs):
-    """Begins to prove a crate; the program is also built and run, with nothing to read."""
-    words = ["rt", "run" if crate == PROGRAM else "lib", "--jobs", str(jobs)]
-    log = (ROOT / "crates" / crate / "out" / "build.log")
-    log.parent.mkdir(exist_ok=True)
-    with log.open("w") as output:
-        return subprocess.Popen(words, cwd=ROOT / "crates" / crate, stdin=subprocess.DEVNULL, stdout=output, stderr=output)
+def lanes():
+    """Where crates are proved: rt refuses copies of sources within a checkout, but for its folder .git."""
+    git = ROOT / ".git"
+    of_tarball = Path(tempfile.gettempdir()) / f"cbpf-build-{hashlib.sha256(bytes(ROOT)).hexdigest()[:16]}"
+    return git / "cbpf-build" if git.is_dir() else of_tarball
 
 
-def prove(libraries, said):
-    """Proves all crates, those with the longest chain above them first, and says which are at work."""
-    lanes, height = checks_at_a_time(), heights(libraries)
-    left = sorted(libraries, key=lambda crate: -height[crate])
-    done, at_work = [], {}
+def linked(source, to):
+    """Gives a file a second name, or copies it: rt makes such files anew, and never writes into them."""
+    try:
+        os.link(source, to)
+    except OSError:
+        shutil.copy2(source, to)
+
+
+class Lane:
+    """A folder in which a crate is proved, and the run of rt that proves it."""
+
+    def __init__(self, crate, jobs, rows):
+        self.jobs, self.folder = jobs, lanes() / crate
+        self.checkout, self.own = folder_of(crate), self.folder / "crates" / crate
+        self.take_back()
+        self.lay_out(crates_below(crate, rows), rows)
+        words = ["rt", "run" if crate == PROGRAM else "lib", "--jobs", str(jobs)]
+        with (self.folder / "log").open("w") as log:
+            self.rt = subprocess.Popen(words, cwd=self.own, stdin=subprocess.DEVNULL, stdout=log, stderr=log)
+
+    def take_back(self):
+        """Moves what was made of the crate to the checkout, also by a build that was interrupted."""
+        if (self.own / "out").is_dir():
+            shutil.rmtree(self.checkout / "out", ignore_errors=True)
+            shutil.move(self.own / "out", self.checkout / "out")
+        shutil.rmtree(self.folder, ignore_errors=True)
+
+    def lay_out(self, crates, rows):
+        """Lays out the crate, the last one, with what is kept of it, and those below it as they were built."""
+        for crate in crates:
+            for part in ("src", "specs", "proofs", "out" if crate == crates[-1] else "out/rlib"):
+                if (folder_of(crate) / part).is_dir():
+                    shutil.copytree(folder_of(crate) / part, self.folder / "crates" / crate / part, copy_function=linked)
+        shutil.rmtree(self.checkout / "out", ignore_errors=True)
+        (self.folder / "crates.txt").write_text("".join(f"{crate}:{rows[crate]}\n" for crate in crates))
+        shutil.copy(ROOT / "HANDLES", self.folder)
+
+
+def build(rows, said):
+    """Proves all crates and builds the program, and says which crates are at work."""
+    crates = crates_below(PROGRAM, rows)
+    waiting = {crate: sum(crate in crates_below(other, rows) for other in crates) for crate in crates}
+    left, done, at_work = sorted(crates, key=lambda crate: -waiting[crate]), [], {}
     while left or at_work:
-        ready = [crate for crate in left if all(library in done for library in libraries[crate])]
-        for place, crate in enumerate(ready):
-            idle = lanes - sum(jobs for _, jobs in at_work.values())
-            if not idle:
-                break
-            # The first crate gets the processors for which there is no other.
-            jobs = max(1, idle - (len(ready) - place - 1))
+        ready = [crate for crate in left if set(crates_below(crate, rows)[:-1]) <= set(done)]
+        idle = checks_at_a_time() - sum(lane.jobs for lane in at_work.values())
+        for place, crate in enumerate(ready[:idle]):
+            jobs = max(1, idle - len(ready) + 1) if place == 0 else 1
             left.remove(crate)
-            at_work[crate] = begin(crate, jobs), jobs
-        said(len(done), sorted(at_work))
-        ended = None
-        while ended is None:
+            at_work[crate] = Lane(crate, jobs, rows)
+        said(len(done), at_work)
+        while not (ended := [crate for crate, lane in at_work.items() if lane.rt.poll() is not None]):
             time.sleep(0.2)
-            ended = next((crate for crate, (rt, _) in at_work.items() if rt.poll() is not None), None)
-        rt, _ = at_work.pop(ended)
-        if rt.returncode:
-            for other, _ in at_work.values():
-                other.terminate()
-            sys.exit((ROOT / "crates" / ended / "out" / "build.log").read_text())
-        done.append(ended)
+        for crate in ended:
+            lane = at_work.pop(crate)
+            said_by_rt = (lane.folder / "log").read_text(errors="replace")
+            lane.take_back()
+            if lane.rt.returncode:
+                stop(at_work.values())
+                sys.exit(said_by_rt)
+            done.append(crate)
+
+
+def stop(at_work):
+    """Ends the runs of rt, which keep what they have proved."""
+    for lane in at_work:
+        lane.rt.terminate()
+    for lane in at_work:
+        lane.rt.wait()
+        lane.take_back()
 
 
 def main():
     if not shutil.which("rt"):
         sys.exit("The command rt of the Rattle toolchain is not on the PATH.")
-    libraries = libraries_of(PROGRAM)
+    lines = (ROOT / "crates.txt").read_text().splitlines()
+    rows = dict(line.split(":") for line in lines if re.match(r"\w", line))
     print(BEFOREHAND, flush=True)
     built_from = sources()
     began = time.time()
 
     def said(done, at_work):
         minutes, seconds = divmod(int(time.time() - began), 60)
-        print(f"[{minutes}:{seconds:02}] {done} of {len(libraries)} crates are proved; at work: {', '.join(at_work)}", flush=True)
+        names = ", ".join(at_work) or "none"
+        print(f"[{minutes}:{seconds:02}] crates proved: {done}; at work: {names}", flush=True)
 
-    prove(libraries, said)
+    build(rows, said)
     record(built_from)
-    print(f"proved: {len(libraries)} crates; the program is crates/{PROGRAM}/out/{PROGRAM}")
+    print(f"The program is crates/{PROGRAM}/out/{PROGRAM}.")
 
 
 if __name__ == "__main__":

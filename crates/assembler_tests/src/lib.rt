@@ -26,7 +26,6 @@ mod tables;
 #[cfg(test)]
 mod tokens;
 #[cfg(test)]
-mod widths;
 #[cfg(test)]
 mod words;
 #[cfg(test)]

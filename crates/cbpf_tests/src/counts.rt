@@ -22,7 +22,7 @@ fn digits_of(n: u128, room: &mut [u8; 39]) -> &[u8] {
 }
 
 /// What follows in a text after a piece and a number, if it begins with them.
-pub fn after_number<'a>(text: &'a [u8], before: &[u8], n: u128) -> Option<&'a [u8]> {
+fn after_number<'a>(text: &'a [u8], before: &[u8], n: u128) -> Option<&'a [u8]> {
     let mut room = [0; 39];
     text.strip_prefix(before)?
         .strip_prefix(digits_of(n, &mut room))

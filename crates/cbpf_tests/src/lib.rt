@@ -69,4 +69,3 @@ mod ways;
 #[cfg(test)]
 mod why;
 #[cfg(test)]
-mod widths;

@@ -19,7 +19,8 @@ use std::alloc::Allocator;
 use std::io::{Read, Write};
 
 /// What is reported of the ARP filter on the capture of two packets, of which it passes the first.
-pub(crate) const ARP_SUMMARY: &[u8] = b"pass 1 at l1:\tjeq #0x806, l2, l3, true, then l2:\tret #0xffffffff, first packet 1\n\
+pub(crate) const ARP_SUMMARY: &[u8] =
+    b"pass 1 at l1:\tjeq #0x806, l2, l3, true, then l2:\tret #0xffffffff, first packet 1\n\
 fail 1 at l1:\tjeq #0x806, l2, l3, false, then l3:\tret #0, first packet 2\n\
 bpf passes:1 fails:1\n";
 

@@ -134,7 +134,8 @@ fn what_is_said_of_a_cut_capture(rt: HostRuntime) {
         ExitCode::FAILURE,
     );
     assert!(rt; lines.as_slice() == LACKING_AND_CUT);
-    let summary = b"pass 1 at l1:\tjeq #0x806, l2, l3, true, then l2:\tret #0xffffffff, first packet 1\nbpf passes:1 fails:0\n\
+    let summary =
+        b"pass 1 at l1:\tjeq #0x806, l2, l3, true, then l2:\tret #0xffffffff, first packet 1\nbpf passes:1 fails:0\n\
 pcap: 1 packets, cut record data at 82\n";
     let lines = said(&rt, Report::Summary, false, &[], summary, ExitCode::SUCCESS);
     assert!(rt; lines.is_empty());

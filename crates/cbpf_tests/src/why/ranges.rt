@@ -95,11 +95,13 @@ fn summary(rt: &impl Test, ranges: &[PacketRange], wanted: Option<CaptureEnd>, t
     assert!(rt; answer == Ok(wanted) && written.as_slice() == text);
 }
 
-const FIRST: &[u8] = b"pass 1 at l1:\tjeq #0x806, l2, l3, true, then l2:\tret #0xffffffff, first packet 1\nbpf passes:1 fails:0\n";
+const FIRST: &[u8] =
+    b"pass 1 at l1:\tjeq #0x806, l2, l3, true, then l2:\tret #0xffffffff, first packet 1\nbpf passes:1 fails:0\n";
 
 #[test]
 fn summaries_of_a_cut_capture(rt: HostRuntime) {
-    let cut = b"pass 1 at l1:\tjeq #0x806, l2, l3, true, then l2:\tret #0xffffffff, first packet 1\nbpf passes:1 fails:0\n\
+    let cut =
+        b"pass 1 at l1:\tjeq #0x806, l2, l3, true, then l2:\tret #0xffffffff, first packet 1\nbpf passes:1 fails:0\n\
 pcap: 1 packets, cut record data at 82\n";
     let end = Some(CaptureEnd {
         count: 1,

@@ -173,7 +173,8 @@ const FOUR: &[u8] = b"\xd4\xc3\xb2\xa1\x02\x00\x04\x00\x00\x00\x00\x00\x00\x00\x
 \x03\x00\x00\x00\x00\x00\x00\x00\x01\x00\x00\x00\x3c\x00\x00\x00\x05\
 \x04\x00\x00\x00\x00\x00\x00\x00\x01\x00\x00\x00\x3c\x00\x00\x00\x09";
 
-const RET_A_SUMMARY: &[u8] = b"pass 2 at l1:\tjset #0x1, l3, l2, true, then l3:\tret a, first packet 3\n\
+const RET_A_SUMMARY: &[u8] =
+    b"pass 2 at l1:\tjset #0x1, l3, l2, true, then l3:\tret a, first packet 3\n\
 pass 1 at l1:\tjset #0x1, l3, l2, false, then l3:\tret a, first packet 1\n\
 fail 1 at l1:\tjset #0x1, l3, l2, false, then l3:\tret a, first packet 2\n\
 bpf passes:3 fails:1\n";
