@@ -26,7 +26,6 @@ mod tables;
 #[cfg(test)]
 mod tokens;
 #[cfg(test)]
-#[cfg(test)]
 mod words;
 #[cfg(test)]
 mod writing;

@@ -68,4 +68,3 @@ mod waiting;
 mod ways;
 #[cfg(test)]
 mod why;
-#[cfg(test)]
