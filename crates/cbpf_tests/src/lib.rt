@@ -12,6 +12,8 @@ mod beginnings;
 #[cfg(test)]
 mod byte_by_byte;
 #[cfg(test)]
+mod callers;
+#[cfg(test)]
 mod capture_reader;
 #[cfg(test)]
 mod captures;

@@ -1,4 +1,5 @@
 //! Stops that a session can go back to.
+#![tactic(auto)]
 
 ghost use Rattle.std.specs.Prelude.{◌≡◌, IfOk, Ok};
 ghost use Rattle.std.specs.List.{All};
