@@ -1,10 +1,12 @@
 //! The assembler over readers, flushes and allocators that fail at one call.
 
 use crate::assertions::{Test, assert_named};
-use crate::fault_injection::{ERROR_KINDS, Fault, FaultyAllocator, FaultyReader, FaultyWriter};
 use crate::inputs::{ARP, ARP_C, ARP_WORDS};
 use cbpf_text::{AsmFault, AsmKind};
 use cbpf_tool::{Form, ToolFault, asm};
+use session_tests::fault_injection::{
+    ERROR_KINDS, Fault, FaultyAllocator, FaultyReader, FaultyWriter,
+};
 use std::io::ErrorKind;
 
 /// What the source assembles to, in each form.

@@ -2,13 +2,13 @@
 
 use crate::assertions::{Test, assert_at, assert_at_both, assert_named};
 use crate::captures::{capture, generated};
-use crate::fault_injection::{ERROR_KINDS, FaultyAllocator, FaultyReader};
 use crate::inputs::{HEADER, RECORD, repeated};
-use crate::two_packets;
 use pcap_classic::{
     Capture, CaptureFault, CaptureReader, Captured, Ending, HeaderFault, OpenFault, ReadFault,
     Records,
 };
+use session_tests::fault_injection::{ERROR_KINDS, FaultyAllocator, FaultyReader};
+use session_tests::two_packets;
 use std::alloc::Allocator;
 use std::io;
 use std::io::{ErrorKind, Read};

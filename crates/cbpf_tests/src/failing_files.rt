@@ -1,9 +1,9 @@
 //! Files of which a load fails.
 
 use crate::assertions::{Test, assert_at};
-use crate::fault_injection::{Fault, FaultyWriter};
 use crate::inputs::two_packets_as_k;
 use cbpf_tool::{DiskFiles, Files, LoadFault, MemoryFiles, debug};
+use session_tests::fault_injection::{Fault, FaultyWriter};
 
 /// The replies to a script over these files.
 fn assert_replies(rt: &impl Test, files: &mut MemoryFiles, script: &[u8], wanted: &[u8]) {

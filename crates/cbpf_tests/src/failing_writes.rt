@@ -1,7 +1,6 @@
 //! The calls that write, over writers that take one byte a call, and fail or take nothing at one call.
 
 use crate::assertions::{Test, assert_named};
-use crate::fault_injection::{Fault, FaultyWriter};
 use crate::inputs::{
     ARP, ARP_C, ARP_SCRIPT, ARP_SCRIPT_REPLIES, ARP_WORDS, ICMP_WORDS, TWO_PACKETS, program_of,
     session_of, two_packets_as_k,
@@ -12,6 +11,7 @@ use cbpf_dbg::{MarkTrail, Meter, RunReply, Session};
 use cbpf_text::write_listing;
 use cbpf_tool::{Form, ToolFault, asm, debug};
 use cbpf_why::{Report, WhyFault};
+use session_tests::fault_injection::{Fault, FaultyWriter};
 use std::io::ErrorKind;
 use std::process::Abort;
 

@@ -5,7 +5,6 @@ mod indexes;
 mod rooms;
 
 use crate::assertions::{Test, assert_named};
-use crate::fault_injection::{Fault, FaultyAllocator, FaultyWriter};
 use crate::inputs::{
     ARP, ARP_WORDS, HEADER, ICMP_WORDS, RECORD, STRAIGHT, program_of, two_packets, two_packets_as_k,
 };
@@ -14,6 +13,7 @@ use cbpf_dbg::{ListTrail, MarkTrail, Session, Trail, When};
 use cbpf_text::{assemble, tokens};
 use cbpf_tool::{DiskFiles, Files, Form, ToolFault, asm, debug};
 use pcap_classic::Capture;
+use session_tests::fault_injection::{Fault, FaultyAllocator, FaultyWriter};
 use std::alloc::{Allocator, Global};
 use std::io;
 use std::io::Read;

@@ -1,7 +1,6 @@
 //! Calls of which each growth is refused, one after another, and which run out of memory only then.
 
 use crate::assertions::{Test, assert_named};
-use crate::fault_injection::FaultyAllocator;
 use crate::inputs::{
     ARP, ARP_WORDS, HEADER, ICMP_WORDS, RECORD, STRAIGHT, TWO_PACKETS, program_of, repeated,
     session_of, two_packets_as_k,
@@ -14,6 +13,7 @@ use cbpf_text::{AsmFault, assemble, tokens};
 use cbpf_tool::{DiskFiles, Files, LoadFault, MemoryFiles};
 use cbpf_why::{FilterFault, Report, WhyFault};
 use pcap_classic::{Capture, CaptureFault, CaptureReader};
+use session_tests::fault_injection::FaultyAllocator;
 use std::alloc::Allocator;
 use std::process::Abort;
 use std::rt;

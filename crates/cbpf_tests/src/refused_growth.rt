@@ -1,9 +1,9 @@
 //! Scripts of which each growth is refused, one after another.
 
 use crate::assertions::{Test, assert_named};
-use crate::fault_injection::{Fault, FaultyAllocator, FaultyWriter};
 use crate::inputs::two_packets_as_k;
 use cbpf_tool::{ToolFault, debug};
+use session_tests::fault_injection::{Fault, FaultyAllocator, FaultyWriter};
 use std::process::Abort;
 
 const LOADS: &[u8] = b"load bpf 1,6 0 0 1\nload pcap k\nrun\nquit\n";

@@ -3,9 +3,9 @@
 //! nothing is read and nothing is written.
 
 use crate::assertions::{Test, assert_named};
-use crate::fault_injection::ERROR_KINDS;
 use crate::inputs::two_packets_as_k;
 use cbpf_tool::{ToolFault, debug};
+use session_tests::fault_injection::ERROR_KINDS;
 use std::cell::Cell;
 use std::io;
 use std::io::{ErrorKind, Read, Write};

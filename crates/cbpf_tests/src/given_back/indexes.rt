@@ -1,9 +1,9 @@
 //! The index of a capture asks for room as records are found, holds the last of it, and gives all back.
 
 use crate::assertions::assert_named;
-use crate::fault_injection::FaultyAllocator;
 use crate::inputs::{HEADER, RECORD, repeated};
 use pcap_classic::Capture;
+use session_tests::fault_injection::FaultyAllocator;
 use std::alloc::{Allocator, Global};
 use std::process::Abort;
 

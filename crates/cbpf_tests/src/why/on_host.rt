@@ -3,9 +3,7 @@ ghost use Rattle.std.specs.Prelude.{◌≡◌};
 ghost use Rattle.cbpf_why.specs.Chosen.{AreSorted};
 
 use crate::assertions::{Test, assert_named};
-use crate::fault_injection::FaultyAllocator;
 use crate::memory_host::{Entry, has_entries, machine};
-use crate::two_packets;
 use crate::why::ranges::packets;
 use crate::why::{ARP_LINES, ARP_SUMMARY};
 use cbpf_machine::Values;
@@ -14,6 +12,8 @@ use cbpf_tool::{
     run_request, write_remarks,
 };
 use cbpf_why::{PacketRange, Report};
+use session_tests::fault_injection::FaultyAllocator;
+use session_tests::two_packets;
 use std::process::ExitCode;
 
 fn named(rt: &impl Test, name: &str) -> String {

@@ -3,13 +3,13 @@ ghost use Rattle.std.specs.Prelude.{◌≡◌};
 ghost use Rattle.cbpf_why.specs.Chosen.{AreSorted};
 
 use crate::assertions::{Test, assert_named};
-use crate::fault_injection::FaultyReader;
 use crate::inputs::ARP;
-use crate::two_packets;
 use crate::why::report_on;
 use crate::why::reports::seven_packets;
 use cbpf_why::{CaptureEnd, PacketRange, Report};
 use pcap_classic::Ending;
+use session_tests::fault_injection::FaultyReader;
+use session_tests::two_packets;
 
 pub(crate) fn packets(first: u64, last: u64) -> PacketRange
     ensures { result ≡ record { first = first; last = last } }

@@ -1,11 +1,11 @@
 //! Reports of a program of 4096 instructions on 5,000 packets, with memory at hand.
 
 use crate::assertions::{Test, assert_named};
-use crate::fault_injection::FaultyReader;
 use crate::inputs::{HEADER, RECORD, repeated};
 use crate::why::report_on;
 use cbpf_code::{write_bytes, write_with_number};
 use cbpf_why::Report;
+use session_tests::fault_injection::FaultyReader;
 
 /// A jump to the last instruction, over 4094 times `tax`, as `tcpdump -ddd` prints it.
 fn longest(rt: &impl Test) -> Vec<u8> {
