@@ -57,8 +57,8 @@ fn room_for_a_report(rt: HostRuntime) {
     let file = repeated(&rt, HEADER, RECORD, 3000, b"");
     for (report, _, _) in &ARP_REPORTS {
         let room = room_of_report(&rt, *report, &file);
-        // Three groups of 40 bytes for each of 4 instructions, 16 bytes for how often it ran, and where blocks begin.
-        let is_wanted = room_of_report(&rt, *report, HEADER) == room && room <= 4 * 138;
+        // Six groups of 56 bytes for each of 4 instructions, 16 bytes for how often it ran, and where blocks begin.
+        let is_wanted = room_of_report(&rt, *report, HEADER) == room && room <= 4 * 354;
         assert_named(&rt, is_wanted, "the room of a report", *report);
     }
 }
