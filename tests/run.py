@@ -3,9 +3,10 @@ r"""Runs the end-to-end cases over a built program.
 
 usage: run.py PROGRAM [NAME..]
 
-Each file NAME.case below tests/cases is a case. Its first lines say what it shows. Then it has texts, each below a line
-`==> NAME <==`; after one without a newline at its end comes the line `\ No newline at end of file`. What is no such text lies in a folder beside it, by the same name. The
-program runs in a new folder, with
+Each file NAME.case below tests/cases is a case. Its first line says what it shows, or the comment at the head of its
+command does. It has texts, each below a line `==> NAME <==`; after one without a newline at its end comes the line
+`\ No newline at end of file`. What is no such text lies in a folder beside it, by the same name. The program runs in a new
+folder, with
   stdin    what it reads (none: nothing)
   args     its arguments, one a line
   command  a shell command to run in its place, where the program is $PROGRAM and examples/ is $EXAMPLES

@@ -16,7 +16,7 @@ import subprocess
 import sys
 import time
 
-from build import ROOT, checks_at_a_time, record, sources
+from build import LANES, ROOT, checks_at_a_time, record, sources
 
 STEP = re.compile(r"rt: (\w+)(: its tests are)? (proved|NOT PROVED|ran)|rt: (\w+): trying its must-fail edits")
 
@@ -28,6 +28,8 @@ def main():
     crates = sum(1 for line in lines if re.match(r"\w", line))
     edits = sum(1 for _ in ROOT.glob("crates/*/must-fail/*.edit"))
     print(f"{crates} crates to prove, then their tests, and {edits} must-fail edits to refuse.", flush=True)
+    # What a build that was killed left: rt ci refuses copies of sources.
+    shutil.rmtree(LANES, ignore_errors=True)
     built_from = sources()
     began = time.time()
     bad = 0

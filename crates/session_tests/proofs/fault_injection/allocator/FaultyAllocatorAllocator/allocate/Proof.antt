@@ -98,7 +98,7 @@ allocate_spec 𝓤 𝓛 𝓜 𝓡 wired B laws ghosts methods drops met _ =
     let z : G.Ghost = at_asks 𝓛 𝓜.mem 𝓡.returns κ q ledger n in
     use2 𝓛 (raw (G.pre z)) (asks-handed 𝓛 𝓜.mem 𝓡.returns κ q ledger n fn) $
     calls_at ! (framed 𝓤 𝓛.H 𝓜 𝓣) G
-    (is_refused.met 𝓤 𝓛 𝓜 𝓡 (code.calls-cbpf_tests::fault_injection::allocator::is_refused 𝓡.env wired)) z
+    (is_refused.met 𝓤 𝓛 𝓜 𝓡 (code.calls-session_tests::fault_injection::allocator::is_refused 𝓡.env wired)) z
     (and_then ! (get ! refl) (and_then ! (get ! refl) (no_more !))) (λ v.
     use1 𝓛 (later (some (λ (t : Bool). given (v ≡ vbool t) (‵ (flft κ q)))))
     (asks-said 𝓛 𝓜.mem 𝓡.returns κ q ledger n v) $

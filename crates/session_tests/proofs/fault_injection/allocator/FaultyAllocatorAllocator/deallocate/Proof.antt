@@ -105,7 +105,7 @@ deallocate_spec 𝓤 𝓛 𝓜 𝓡 wired B laws ghosts methods drops met _ =
     let z' : G'.Ghost = at_returns 𝓛 𝓜.mem 𝓡.returns κ q ledger n in
     use2 𝓛 (raw (G'.pre z')) (returns-handed 𝓛 𝓜.mem 𝓡.returns κ q ledger n fn) $
     calls_at ! (framed 𝓤 𝓛.H 𝓜 𝓣) G'
-    (give_back.met 𝓤 𝓛 𝓜 𝓡 (code.calls-cbpf_tests::fault_injection::allocator::give_back 𝓡.env wired)) z'
+    (give_back.met 𝓤 𝓛 𝓜 𝓡 (code.calls-session_tests::fault_injection::allocator::give_back 𝓡.env wired)) z'
     (and_then ! (get ! refl) (and_then ! (get ! refl) (no_more !))) (λ u.
     use1 𝓛 (later (given (u ≡ vunit) (‵ (flft κ q)))) (returns-said 𝓛 𝓜.mem 𝓡.returns κ q ledger n u) $
     await ! tt $ learn ! (λ was_unit. lands_as ! was_unit refl (tt, tt) $
