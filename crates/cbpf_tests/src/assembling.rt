@@ -1,9 +1,9 @@
 //! The assembler over readers, flushes and allocators that fail at one call.
 
 use crate::assertions::{Test, assert_named};
-use crate::inputs::{ARP, ARP_C, ARP_WORDS};
 use cbpf_text::{AsmFault, AsmKind};
 use cbpf_tool::{Form, ToolFault, asm};
+use memory_tests::inputs::{ARP, ARP_C, ARP_WORDS};
 use session_tests::fault_injection::{
     ERROR_KINDS, Fault, FaultyAllocator, FaultyReader, FaultyWriter,
 };

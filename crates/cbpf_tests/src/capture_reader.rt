@@ -2,12 +2,13 @@
 
 use crate::assertions::{Test, assert_at, assert_at_both, assert_named};
 use crate::captures::{capture, generated};
-use crate::inputs::{HEADER, RECORD, repeated};
+use memory_tests::inputs::repeated;
 use pcap_classic::{
     Capture, CaptureFault, CaptureReader, Captured, Ending, HeaderFault, OpenFault, ReadFault,
     Records,
 };
 use session_tests::fault_injection::{ERROR_KINDS, FaultyAllocator, FaultyReader};
+use session_tests::inputs::{HEADER, RECORD};
 use session_tests::two_packets;
 use std::alloc::Allocator;
 use std::io;
@@ -152,7 +153,7 @@ fn read_in_few_calls(rt: &impl Test, file: &[u8]) {
 
 #[test]
 fn a_hundred_thousand_records(rt: HostRuntime) {
-    let bytes = repeated(&rt, HEADER, RECORD, 100_000, b"");
+    let bytes = repeated(rt.alloc(), HEADER, RECORD, 100_000, b"").expect(&rt, "memory");
     read_in_few_calls(&rt, &bytes);
     assert!(rt; is_read_as_a_whole(&rt, &bytes, 1));
 }

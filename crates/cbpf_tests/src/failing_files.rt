@@ -1,8 +1,8 @@
 //! Files of which a load fails.
 
 use crate::assertions::{Test, assert_at};
-use crate::inputs::two_packets_as_k;
 use cbpf_tool::{DiskFiles, Files, LoadFault, MemoryFiles, debug};
+use memory_tests::inputs::two_packets_as_k;
 use session_tests::fault_injection::{Fault, FaultyWriter};
 
 /// The replies to a script over these files.
@@ -17,7 +17,7 @@ fn assert_replies(rt: &impl Test, files: &mut MemoryFiles, script: &[u8], wanted
 /// name.
 #[test]
 fn the_first_load_fails_alone(rt: HostRuntime) {
-    let mut files = two_packets_as_k(&rt);
+    let mut files = two_packets_as_k(rt.alloc()).expect(&rt, "memory");
     files.fail_at(1);
     let script = b"load pcap k\nload pcap k\nload pcap j\n".as_slice();
     let wanted = b"error: F2 file could not be read\npcap: 2 packets\n\
@@ -29,7 +29,7 @@ error: F1 no such file\n"
 // A name that is no text asks for no load, and neither is a wrong line one.
 #[test]
 fn the_chosen_load_fails_alone(rt: HostRuntime) {
-    let mut files = two_packets_as_k(&rt);
+    let mut files = two_packets_as_k(rt.alloc()).expect(&rt, "memory");
     files.fail_at(1);
     files.fail_at(3);
     let script = b"load pcap \xff\nload pcap\nload pcap k\nload pcap j\n\
@@ -54,7 +54,7 @@ fn loads(rt: &impl Test, files: &mut impl Files, name: &str) {
 /// A load succeeds after forty others failed, of a file in memory and of a file of the system.
 #[test]
 fn a_load_after_forty_failures(rt: HostRuntime) {
-    let mut files = two_packets_as_k(&rt);
+    let mut files = two_packets_as_k(rt.alloc()).expect(&rt, "memory");
     for nth in 1..=40usize {
         files.fail_at(1);
         load_fails(&rt, &mut files, "k", nth);

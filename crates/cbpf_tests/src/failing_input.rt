@@ -1,8 +1,8 @@
 //! A reader that gives a few bytes a call, and fails at one call.
 
 use crate::assertions::{Test, assert_named};
-use crate::inputs::{ARP_SCRIPT, ARP_SCRIPT_REPLIES};
 use cbpf_tool::{MemoryFiles, ToolFault, debug};
+use memory_tests::inputs::{ARP_SCRIPT, ARP_SCRIPT_REPLIES};
 use session_tests::fault_injection::{ERROR_KINDS, Fault, FaultyReader, FaultyWriter};
 use std::alloc::Global;
 use std::io::ErrorKind;

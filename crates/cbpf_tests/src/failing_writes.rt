@@ -1,17 +1,17 @@
 //! The calls that write, over writers that take one byte a call, and fail or take nothing at one call.
 
 use crate::assertions::{Test, assert_named};
-use crate::inputs::{
-    ARP, ARP_C, ARP_SCRIPT, ARP_SCRIPT_REPLIES, ARP_WORDS, ICMP_WORDS, TWO_PACKETS, program_of,
-    session_of, two_packets_as_k,
-};
 use crate::why::{ARP_REPORTS, report_on};
 use cbpf_code::{WriteFault, write_bytes, write_c, write_words};
 use cbpf_dbg::{MarkTrail, Meter, RunReply, Session};
 use cbpf_text::write_listing;
 use cbpf_tool::{Form, ToolFault, asm, debug};
 use cbpf_why::{Report, WhyFault};
+use memory_tests::inputs::{
+    ARP, ARP_C, ARP_SCRIPT, ARP_SCRIPT_REPLIES, ARP_WORDS, two_packets_as_k,
+};
 use session_tests::fault_injection::{Fault, FaultyWriter};
+use session_tests::inputs::{ICMP_WORDS, TWO_PACKETS, program_of, session_of};
 use std::io::ErrorKind;
 use std::process::Abort;
 
@@ -173,7 +173,7 @@ fn write_replies(
     script: &[u8],
     w: &mut FaultyWriter<2048>,
 ) -> Result<(), ToolFault> {
-    let mut files = two_packets_as_k(rt);
+    let mut files = two_packets_as_k(rt.alloc()).expect(rt, "memory");
     let mut reader = script;
     debug(rt.alloc(), &mut reader, w, &mut files)
 }

@@ -8,8 +8,6 @@ mod assertions;
 #[cfg(test)]
 mod beginnings;
 #[cfg(test)]
-mod byte_by_byte;
-#[cfg(test)]
 mod capture_reader;
 #[cfg(test)]
 mod captures;
@@ -21,23 +19,11 @@ mod failing_input;
 #[cfg(test)]
 mod failing_writes;
 #[cfg(test)]
-mod given_back;
-#[cfg(test)]
-mod great_sizes;
-#[cfg(test)]
-mod inputs;
-#[cfg(test)]
 mod memory_host;
 #[cfg(test)]
 mod outsiders;
 #[cfg(test)]
-mod refused_calls;
-#[cfg(test)]
-mod refused_growth;
-#[cfg(test)]
 mod shown;
-#[cfg(test)]
-mod sizes;
 #[cfg(test)]
 mod waiting;
 #[cfg(test)]

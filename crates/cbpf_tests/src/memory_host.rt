@@ -7,12 +7,13 @@ ghost use Rattle.cbpf_tests.specs.Events.{event};
 
 use crate::assertions::Test;
 use crate::done::Done;
-use crate::inputs::{ARP, ARP_WORDS, TWO_PACKETS};
 use cbpf_tool::{
     CreateFault, Failure, Files, Form, Host, Job, LoadFault, ToolFault, asm_job, dbg_job, run_on,
     status_of,
 };
+use memory_tests::inputs::{ARP, ARP_WORDS};
 use session_tests::fault_injection::FaultyAllocator;
+use session_tests::inputs::TWO_PACKETS;
 use std::alloc::Allocator;
 use std::io::{self, ErrorKind};
 use std::process::{Abort, ExitCode};

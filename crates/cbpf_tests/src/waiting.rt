@@ -3,8 +3,8 @@
 //! nothing is read and nothing is written.
 
 use crate::assertions::{Test, assert_named};
-use crate::inputs::two_packets_as_k;
 use cbpf_tool::{ToolFault, debug};
+use memory_tests::inputs::two_packets_as_k;
 use session_tests::fault_injection::ERROR_KINDS;
 use std::cell::Cell;
 use std::io;
@@ -208,7 +208,7 @@ fn run_line_by_line(
         failing,
         error,
     };
-    let mut files = two_packets_as_k(rt);
+    let mut files = two_packets_as_k(rt.alloc()).expect(rt, "memory");
     let outcome = debug(rt.alloc(), &mut reader, &mut writer, &mut files);
     check(rt, outcome, &writer, wanted, (exchanges.len(), failing));
     // The read that finds the end is the last one, and after `quit` there is none.
@@ -302,7 +302,7 @@ fn run_at_once(rt: &impl Test, script: &[u8], wanted: &[u64], failing: usize) {
         failing,
         error: ErrorKind::Other,
     };
-    let mut files = two_packets_as_k(rt);
+    let mut files = two_packets_as_k(rt.alloc()).expect(rt, "memory");
     let outcome = debug(rt.alloc(), &mut reader, &mut writer, &mut files);
     check(rt, outcome, &writer, wanted, (SCRIPT.len(), failing));
 }

@@ -3,10 +3,10 @@
 use crate::assertions::{Test, assert_at, assert_named};
 use crate::capture_reader::{of_lengths, with_bytes};
 use crate::captures::capture;
-use crate::inputs::ARP;
 use crate::why::{ARP_REPORTS, ARP_SUMMARY, Reported, report_in, report_on};
 use cbpf_reply::write_capture;
 use cbpf_why::{CaptureEnd, Report, WhyFault};
+use memory_tests::inputs::ARP;
 use pcap_classic::{CaptureReader, Ending};
 use session_tests::fault_injection::{ERROR_KINDS, FaultyAllocator, FaultyReader};
 use session_tests::two_packets;

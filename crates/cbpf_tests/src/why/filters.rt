@@ -1,10 +1,11 @@
 //! Programs by the texts of filters.
 
 use crate::assertions::{Test, assert_at};
-use crate::inputs::{ARP, ARP_WORDS, program_of};
 use cbpf_code::{CheckFault, WordFault};
 use cbpf_text::{AsmFault, AsmKind};
 use cbpf_why::FilterFault;
+use memory_tests::inputs::{ARP, ARP_WORDS};
+use session_tests::inputs::program_of;
 
 /// Texts of the ARP filter: a source, word text, and what `tcpdump -ddd` prints.
 static ARP_TEXTS: [&[u8]; 12] = [

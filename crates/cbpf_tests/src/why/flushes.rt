@@ -2,11 +2,11 @@
 ghost use Rattle.cbpf_why.specs.Chosen.{AreSorted};
 
 use crate::assertions::{Test, assert_named};
-use crate::inputs::ARP;
 use crate::waiting::{CountingWriter, Exchange, Length, NOTHING, WaitingReader};
 use crate::why::ranges::packets;
 use crate::why::{ARP_REPORTS, Reported, report_on};
 use cbpf_why::{PacketRange, Report, WhyFault};
+use memory_tests::inputs::ARP;
 use session_tests::fault_injection::ERROR_KINDS;
 use session_tests::two_packets;
 use std::cell::Cell;

@@ -3,10 +3,10 @@ ghost use Rattle.std.specs.Prelude.{◌≡◌};
 ghost use Rattle.cbpf_why.specs.Chosen.{AreSorted};
 
 use crate::assertions::{Test, assert_named};
-use crate::inputs::ARP;
 use crate::why::report_on;
 use crate::why::reports::seven_packets;
 use cbpf_why::{CaptureEnd, PacketRange, Report};
+use memory_tests::inputs::ARP;
 use pcap_classic::Ending;
 use session_tests::fault_injection::FaultyReader;
 use session_tests::two_packets;

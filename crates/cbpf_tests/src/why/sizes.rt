@@ -1,15 +1,23 @@
 //! Reports of a program of 4096 instructions on 5,000 packets, with memory at hand.
 
 use crate::assertions::{Test, assert_named};
-use crate::inputs::{HEADER, RECORD, repeated};
 use crate::why::report_on;
 use cbpf_code::{write_bytes, write_with_number};
 use cbpf_why::Report;
+use memory_tests::inputs::repeated;
 use session_tests::fault_injection::FaultyReader;
+use session_tests::inputs::{HEADER, RECORD};
 
 /// A jump to the last instruction, over 4094 times `tax`, as `tcpdump -ddd` prints it.
 fn longest(rt: &impl Test) -> Vec<u8> {
-    repeated(rt, b"4096\n5 0 0 4094\n", b"7 0 0 0\n", 4094, b"6 0 0 1\n")
+    repeated(
+        rt.alloc(),
+        b"4096\n5 0 0 4094\n",
+        b"7 0 0 0\n",
+        4094,
+        b"6 0 0 1\n",
+    )
+    .expect(rt, "memory")
 }
 
 fn put(rt: &impl Test, text: &mut Vec<u8>, more: &[u8]) {
@@ -77,7 +85,7 @@ l4095 -> pass4095 [label=\"5000\"]\n\
 #[test]
 fn a_long_program_on_many_packets(rt: HostRuntime) {
     let filter = longest(&rt);
-    let file = repeated(&rt, HEADER, RECORD, 5000, b"");
+    let file = repeated(rt.alloc(), HEADER, RECORD, 5000, b"").expect(&rt, "memory");
     for report in [
         Report::Summary,
         Report::Ways,

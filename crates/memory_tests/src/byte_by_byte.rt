@@ -17,7 +17,7 @@ fn assembles_to(rt: &impl Test, source: &[u8], words: &[u8]) {
 #[test]
 fn a_source(rt: HostRuntime) {
     let comment = b" ; seventeen bytes\n";
-    let source = repeated(&rt, b"ret #5", comment, 40_000, b"");
+    let source = repeated(rt.alloc(), b"ret #5", comment, 40_000, b"").expect(&rt, "memory");
     assembles_to(&rt, &source, b"1,6 0 0 5,\n");
 }
 
@@ -33,16 +33,18 @@ fn replies(rt: &impl Test, script: &[u8], wanted: &[u8]) {
 /// A script's line of 700,000 bytes and more is read where each read gives one byte.
 #[test]
 fn a_line(rt: HostRuntime) {
-    let line = repeated(&rt, b"load bpf ", b" \t", 350_000, b"1,6 0 0 1\n");
+    let line = repeated(rt.alloc(), b"load bpf ", b" \t", 350_000, b"1,6 0 0 1\n").expect(
+        &rt, "memory",
+    );
     replies(&rt, &line, b"bpf: 1 instructions\n");
 }
 
 /// 100,000 commands are answered where each read gives one byte.
 #[test]
 fn many_lines(rt: HostRuntime) {
-    let lines = repeated(&rt, b"", b"hello\n\n", 100_000, b"mark\n");
+    let lines = repeated(rt.alloc(), b"", b"hello\n\n", 100_000, b"mark\n").expect(&rt, "memory");
     let reply = b"error: Q1 unknown command\n";
     let last = b"error: S1 no program\n";
-    let wanted = repeated(&rt, b"", reply, 100_000, last);
+    let wanted = repeated(rt.alloc(), b"", reply, 100_000, last).expect(&rt, "memory");
     replies(&rt, &lines, &wanted);
 }

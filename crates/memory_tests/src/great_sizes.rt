@@ -3,18 +3,19 @@
 ghost use Rattle.std.specs.Prelude.{◌<◌};
 
 use crate::assertions::{Test, assert_named};
-use crate::inputs::{HEADER, RECORD, STRAIGHT, program_of, repeated};
+use crate::inputs::repeated;
 use cbpf_code::{CheckFault, Insn, check, read_words};
 use cbpf_dbg::{Counts, MarkTrail, Meter, Place, Session, Stop};
 use cbpf_text::tokens;
 use cbpf_tool::{Files, MemoryFiles, debug};
 use pcap_classic::Capture;
 use session_tests::fault_injection::FaultyReader;
+use session_tests::inputs::{HEADER, RECORD, STRAIGHT, program_of};
 use std::process::Abort;
 
 /// A word text of 50,000 instructions, after a beginning.
 fn words_of_50000(rt: &impl Test, first: &[u8]) -> Vec<u8> {
-    repeated(rt, first, b"7 0 0 0,", 49999, b"6 1 2 3\n")
+    repeated(rt.alloc(), first, b"7 0 0 0,", 49999, b"6 1 2 3\n").expect(rt, "memory")
 }
 
 fn refusal_of(list: Vec<Insn>) -> Option<CheckFault> {
@@ -47,7 +48,9 @@ fn replies(rt: &impl Test, script: &[u8], chunk: usize, wanted: &[u8])
 /// Lines of three million bytes and of 50,000 instructions are read where there is memory.
 #[test]
 fn lines_of_three_million_bytes_and_of_50000_instructions(rt: HostRuntime) {
-    let line = repeated(&rt, b"load bpf ", b" \t", 1_500_000, b"1,6 0 0 1\n");
+    let line = repeated(rt.alloc(), b"load bpf ", b" \t", 1_500_000, b"1,6 0 0 1\n").expect(
+        &rt, "memory",
+    );
     replies(&rt, &line, 4096, b"bpf: 1 instructions\n");
     let line = words_of_50000(&rt, b"load bpf 50000,");
     replies(&rt, &line, 4096, b"error: C2 more than 4096 instructions\n");
@@ -55,7 +58,7 @@ fn lines_of_three_million_bytes_and_of_50000_instructions(rt: HostRuntime) {
 
 /// A session of 21 instructions over 25,000 packets.
 fn session_of_25000(rt: &impl Test) -> Session<MarkTrail> {
-    let bytes = repeated(rt, HEADER, RECORD, 25000, b"");
+    let bytes = repeated(rt.alloc(), HEADER, RECORD, 25000, b"").expect(rt, "memory");
     let capture = Capture::from_bytes(rt.alloc(), bytes)
         .ok()
         .expect(rt, "the capture");
@@ -105,7 +108,7 @@ fn a_run_to_the_end_with_50000_stops(rt: HostRuntime) {
 /// A list of two million tokens is made where there is memory.
 #[test]
 fn two_million_tokens(rt: HostRuntime) {
-    let source = repeated(&rt, b"", b"tax\n", 2000000, b"");
+    let source = repeated(rt.alloc(), b"", b"tax\n", 2000000, b"").expect(&rt, "memory");
     let tokens = tokens(rt.alloc(), &source).expect(&rt, "the tokens");
     let last = tokens.last().expect(&rt, "a token");
     assert!(rt; tokens.len() == 2000000 && last.start == 7999996);
@@ -117,7 +120,7 @@ const EMPTY: &[u8] = &[0; 16];
 // Where each look-up went over all records before, this would take hours.
 #[test]
 fn a_hundred_thousand_look_ups_late_in_a_capture(rt: HostRuntime) {
-    let bytes = repeated(&rt, HEADER, EMPTY, 1_000_000, b"");
+    let bytes = repeated(rt.alloc(), HEADER, EMPTY, 1_000_000, b"").expect(&rt, "memory");
     let capture = Capture::from_bytes(rt.alloc(), bytes)
         .ok()
         .expect(&rt, "the capture");

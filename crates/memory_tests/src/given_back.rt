@@ -5,15 +5,14 @@ mod indexes;
 mod rooms;
 
 use crate::assertions::{Test, assert_named};
-use crate::inputs::{
-    ARP, ARP_WORDS, HEADER, ICMP_WORDS, RECORD, STRAIGHT, program_of, two_packets, two_packets_as_k,
-};
+use crate::inputs::{ARP, ARP_WORDS, two_packets_as_k};
 use cbpf_code::{check, read_words};
 use cbpf_dbg::{ListTrail, MarkTrail, Session, Trail, When};
 use cbpf_text::{assemble, tokens};
 use cbpf_tool::{DiskFiles, Files, Form, ToolFault, asm, debug};
 use pcap_classic::Capture;
 use session_tests::fault_injection::{Fault, FaultyAllocator, FaultyWriter};
+use session_tests::inputs::{HEADER, ICMP_WORDS, RECORD, STRAIGHT, program_of, two_packets};
 use std::alloc::{Allocator, Global};
 use std::io;
 use std::io::Read;
@@ -170,7 +169,7 @@ fn loads_of_files(rt: HostRuntime) {
     let counting = FaultyAllocator::new(rt.alloc(), 0);
     assert!(rt; is_loaded(&mut DiskFiles::new(&rt), &counting, "/proc/self/status"));
     assert!(rt; counting.asked() > 0 && counting.held() == 0);
-    let mut files = two_packets_as_k(&rt);
+    let mut files = two_packets_as_k(rt.alloc()).expect(&rt, "memory");
     assert!(rt; is_loaded(&mut files, &counting, "k"));
     assert!(rt; !is_loaded(&mut files, &counting, "absent"));
     assert!(rt; counting.held() == 0);
@@ -228,7 +227,7 @@ impl<'a> Read for NotingReader<'a> {
 
 /// Runs the script over the capture of two packets, and a file that is none.
 fn run(rt: &impl Test, reader: &mut NotingReader<'_>) {
-    let mut files = two_packets_as_k(rt);
+    let mut files = two_packets_as_k(rt.alloc()).expect(rt, "memory");
     let bad = Vec::from_slice(rt.alloc(), RECORD).expect(rt, "the bytes");
     assert!(rt; files.put("bad", bad).is_ok());
     let mut replies = Vec::new(rt.alloc());
@@ -283,7 +282,7 @@ fn after_a_last_flush_that_failed(rt: HostRuntime) {
     assert!(rt; counting.asked() > 0 && counting.held() == 0);
     for script in [LINES[0], b"load bpf 1,6 0 0 1\nbreakpoint 0\nquit\n"] {
         let (mut reader, mut writer) = (script, unflushable());
-        let mut files = two_packets_as_k(&rt);
+        let mut files = two_packets_as_k(rt.alloc()).expect(&rt, "memory");
         let answer = debug(&counting, &mut reader, &mut writer, &mut files);
         assert!(rt; answer == Err(ToolFault::Write) && writer.flushes() > 0);
         assert!(rt; counting.asked() > 0 && counting.held() == 0);

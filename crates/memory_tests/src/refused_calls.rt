@@ -1,11 +1,8 @@
 //! Calls of which each growth is refused, one after another, and which run out of memory only then.
 
 use crate::assertions::{Test, assert_named};
-use crate::inputs::{
-    ARP, ARP_WORDS, HEADER, ICMP_WORDS, RECORD, STRAIGHT, TWO_PACKETS, program_of, repeated,
-    session_of, two_packets_as_k,
-};
-use crate::why::report_in;
+use crate::inputs::{ARP, ARP_WORDS, repeated, two_packets_as_k};
+use crate::reports::report_in;
 use cbpf_code::{WordFault, read_words};
 use cbpf_dbg::{ListTrail, MarkTrail, Meter, Session, SessionFault, Stop, When};
 use cbpf_machine::Tally;
@@ -14,6 +11,9 @@ use cbpf_tool::{DiskFiles, Files, LoadFault, MemoryFiles};
 use cbpf_why::{FilterFault, Report, WhyFault};
 use pcap_classic::{Capture, CaptureFault, CaptureReader};
 use session_tests::fault_injection::FaultyAllocator;
+use session_tests::inputs::{
+    HEADER, ICMP_WORDS, RECORD, STRAIGHT, TWO_PACKETS, program_of, session_of,
+};
 use std::alloc::Allocator;
 use std::process::Abort;
 use std::rt;
@@ -102,7 +102,7 @@ fn finds_none_for_files<A: Allocator + Copy>(rt: &impl Abort, alloc: A) -> bool 
 }
 
 fn finds_none_for_a_load<A: Allocator + Copy>(rt: &impl Test, alloc: A, name: &str) -> bool {
-    let mut files = two_packets_as_k(rt);
+    let mut files = two_packets_as_k(rt.alloc()).expect(rt, "memory");
     let found = matches!(files.load(alloc, name), Err(LoadFault::Memory));
     assert!(rt; !found || files.load(alloc, name).is_ok());
     found
@@ -229,7 +229,7 @@ fn finds_none_for_a_report<A: Allocator + Copy>(rt: &impl Test, alloc: A, report
         .ok()
         .expect(rt, "the capture");
     let mut text = Vec::new(rt.alloc());
-    let answer = report_in(rt, alloc, (ARP, None, report), &[], &mut reader, &mut text);
+    let answer = report_in(rt, alloc, report, &[], &mut reader, &mut text);
     let found = answer == Err(WhyFault::Memory);
     assert!(rt; found == text.is_empty() && (found || answer.is_ok()));
     found
@@ -374,7 +374,7 @@ fn over<'a>(call: Call<'_>, bytes: &'a [u8]) -> Call<'a> {
 
 fn check_large_row(rt: &impl DiskTest, row: usize, content: &LargeRow) {
     let (first, piece, count, last, (call, least, most)) = *content;
-    let bytes = repeated(rt, first, piece, count, last);
+    let bytes = repeated(rt.alloc(), first, piece, count, last).expect(rt, "memory");
     check_row(rt, row, &(over(call, &bytes), least, most));
 }
 

@@ -79,7 +79,7 @@ fn text_after(refused: &[Refused], nth: u64) -> Option<&'static [u8]> {
 /// Whether the growth `nth` is refused, and then out of memory is found.
 fn is_refused(rt: &impl Test, script: &Row, row: usize, nth: u64) -> bool {
     let (script, replies, _, refused) = *script;
-    let mut files = two_packets_as_k(rt);
+    let mut files = two_packets_as_k(rt.alloc()).expect(rt, "memory");
     let alloc = FaultyAllocator::new(rt.alloc(), nth);
     let mut reader = script;
     let mut writer = FaultyWriter::<256>::new(Fault::Fails, 0);
@@ -157,7 +157,7 @@ fn end_of(answer: Result<(), ToolFault>, written: &[u8]) -> usize {
 
 /// Which of `ENDS` comes of `LOADS` over a slice as writer, and whether the growth `nth` was refused.
 fn end_over_a_slice(rt: &impl Test, nth: u64) -> (usize, bool) {
-    let mut files = two_packets_as_k(rt);
+    let mut files = two_packets_as_k(rt.alloc()).expect(rt, "memory");
     let alloc = FaultyAllocator::new(rt.alloc(), nth);
     let mut reader = LOADS;
     let mut room = [0u8; 128];

@@ -1,9 +1,10 @@
 //! The index of a capture asks for room as records are found, holds the last of it, and gives all back.
 
 use crate::assertions::assert_named;
-use crate::inputs::{HEADER, RECORD, repeated};
+use crate::inputs::repeated;
 use pcap_classic::Capture;
 use session_tests::fault_injection::FaultyAllocator;
+use session_tests::inputs::{HEADER, RECORD};
 use std::alloc::{Allocator, Global};
 use std::process::Abort;
 
@@ -47,7 +48,7 @@ fn index_of<A: Allocator + Copy>(
 fn room_for_the_index_of_a_capture(rt: HostRuntime) {
     for (records, asked, held) in INDEXES.iter() {
         let counting = FaultyAllocator::new(rt.alloc(), 0);
-        let bytes = repeated(&rt, HEADER, RECORD, *records, b"");
+        let bytes = repeated(rt.alloc(), HEADER, RECORD, *records, b"").expect(&rt, "memory");
         let found = index_of(&rt, &counting, &counting, &bytes);
         let is_wanted = found == (*asked, *held);
         assert_named(&rt, is_wanted, "the bytes of the index", *records);

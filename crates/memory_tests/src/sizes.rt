@@ -1,16 +1,17 @@
 //! Large inputs: thousands of records, instructions, tokens and breakpoints, with memory at hand.
 
 use crate::assertions::{Test, assert_named};
-use crate::inputs::{HEADER, RECORD, program_of, repeated};
+use crate::inputs::repeated;
 use cbpf_dbg::{MarkTrail, Session, SessionFault, When};
 use cbpf_text::{assemble, tokens, write_listing};
 use cbpf_tool::{Form, MemoryFiles, asm, debug};
 use pcap_classic::{Capture, Ending};
 use session_tests::fault_injection::FaultyReader;
+use session_tests::inputs::{HEADER, RECORD, program_of};
 use std::process::Abort;
 
 fn records(rt: &impl Test) {
-    let bytes = repeated(rt, HEADER, RECORD, 3000, b"");
+    let bytes = repeated(rt.alloc(), HEADER, RECORD, 3000, b"").expect(rt, "memory");
     let capture = Capture::from_bytes(rt.alloc(), bytes)
         .ok()
         .expect(rt, "the capture");
@@ -19,7 +20,7 @@ fn records(rt: &impl Test) {
 }
 
 fn source_tokens(rt: &impl Test) {
-    let source = repeated(rt, b"", b"add x\n", 4096, b"");
+    let source = repeated(rt.alloc(), b"", b"add x\n", 4096, b"").expect(rt, "memory");
     let tokens = tokens(rt.alloc(), &source).expect(rt, "the tokens");
     assert!(rt; tokens.len() == 8192);
 }
@@ -61,7 +62,9 @@ fn loads(rt: &impl Test, script: &[u8]) {
 fn thousands_of_records_instructions_and_tokens(rt: HostRuntime) {
     records(&rt);
     source_tokens(&rt);
-    let words = repeated(&rt, b"4096,", b"7 0 0 0,", 4095, b"6 0 0 1,\n");
+    let words = repeated(rt.alloc(), b"4096,", b"7 0 0 0,", 4095, b"6 0 0 1,\n").expect(
+        &rt, "memory",
+    );
     let listing = listing_of(&rt, &words);
     assembles_to(&rt, &listing, &words);
     loads(&rt, &script_of(&rt, &words));
@@ -69,7 +72,7 @@ fn thousands_of_records_instructions_and_tokens(rt: HostRuntime) {
 
 /// A session over 4096 instructions.
 fn session_of_4096(rt: &impl Test) -> Session<MarkTrail> {
-    let words = repeated(rt, b"4096,", b"7 0 0 0,", 4095, b"6 0 0 1");
+    let words = repeated(rt.alloc(), b"4096,", b"7 0 0 0,", 4095, b"6 0 0 1").expect(rt, "memory");
     let mut session = Session::new(rt.alloc(), MarkTrail::new());
     session.load_program(program_of(rt.alloc(), &words).expect(rt, "the program"));
     session

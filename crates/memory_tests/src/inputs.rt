@@ -1,11 +1,8 @@
 //! Sources, scripts and files that several tests load.
 
-use crate::assertions::Test;
 use cbpf_tool::MemoryFiles;
-pub use session_tests::inputs::{
-    HEADER, ICMP_WORDS, RECORD, STRAIGHT, TWO_PACKETS, program_of, session_of, two_packets,
-};
-use std::process::Abort;
+use session_tests::inputs::TWO_PACKETS;
+use std::alloc::{AllocError, Allocator};
 
 /// A source of four instructions.
 pub const ARP: &[u8] = b"ldh [12]\njne #0x806, drop\nret #-1\ndrop: ret #0\n";
@@ -32,19 +29,26 @@ pub const ARP_SCRIPT_REPLIES: &[u8] = b"bpf: 4 instructions\n\
 { 0x06,  0,  0, 0000000000 },\n";
 
 /// One piece many times, between a first and a last.
-pub fn repeated(rt: &impl Test, first: &[u8], piece: &[u8], count: u32, last: &[u8]) -> Vec<u8> {
-    let mut text = Vec::from_slice(rt.alloc(), first).expect(rt, "memory");
+pub fn repeated<A: Allocator>(
+    alloc: A,
+    first: &[u8],
+    piece: &[u8],
+    count: u32,
+    last: &[u8],
+) -> Result<Vec<u8, A>, AllocError> {
+    let mut text = Vec::from_slice(alloc, first)?;
     for _ in 0..count {
-        text.extend_from_slice(piece).expect(rt, "memory");
+        text.extend_from_slice(piece)?;
     }
-    text.extend_from_slice(last).expect(rt, "memory");
-    text
+    text.extend_from_slice(last)?;
+    Ok(text)
 }
 
 /// Files in memory of which `k` is the capture of two packets.
-pub fn two_packets_as_k(rt: &impl Test) -> MemoryFiles {
-    let mut files = MemoryFiles::new(rt.alloc());
-    let bytes = Vec::from_slice(rt.alloc(), TWO_PACKETS).expect(rt, "the bytes");
-    assert!(rt; files.put("k", bytes).is_ok());
-    files
+pub fn two_packets_as_k<A: Allocator + Copy>(alloc: A) -> Result<MemoryFiles<A>, AllocError> {
+    let mut files = MemoryFiles::new(alloc);
+    match files.put("k", Vec::from_slice(alloc, TWO_PACKETS)?) {
+        Ok(()) => Ok(files),
+        Err(_) => Err(AllocError),
+    }
 }

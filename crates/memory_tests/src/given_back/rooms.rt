@@ -1,13 +1,14 @@
 //! How much room a trail, a tally, a report and breakpoints ask for, and that it is given back.
 
 use crate::assertions::{Test, assert_named};
-use crate::inputs::{ARP, HEADER, RECORD, STRAIGHT, program_of, repeated};
-use crate::why::{ARP_REPORTS, report_in};
+use crate::inputs::repeated;
+use crate::reports::report_in;
 use cbpf_dbg::{ListTrail, MarkTrail, Session, Trail, When};
 use cbpf_machine::Tally;
 use cbpf_why::Report;
 use pcap_classic::CaptureReader;
 use session_tests::fault_injection::FaultyAllocator;
+use session_tests::inputs::{HEADER, RECORD, STRAIGHT, program_of};
 use std::alloc::{Allocator, Global};
 use std::process::Abort;
 
@@ -40,22 +41,23 @@ fn room_of_report(rt: &impl Test, report: Report, file: &[u8]) -> u64 {
         .ok()
         .expect(rt, "the capture");
     let mut text = Vec::new(rt.alloc());
-    let answer = report_in(
-        rt,
-        &counting,
-        (ARP, None, report),
-        &[],
-        &mut reader,
-        &mut text,
-    );
+    let answer = report_in(rt, &counting, report, &[], &mut reader, &mut text);
     assert!(rt; answer.is_ok() && counting.held() == 0);
     counting.asked()
 }
 
+const REPORTS: [Report; 5] = [
+    Report::Summary,
+    Report::Ways,
+    Report::Packets,
+    Report::Coverage,
+    Report::Graph,
+];
+
 #[test]
 fn room_for_a_report(rt: HostRuntime) {
-    let file = repeated(&rt, HEADER, RECORD, 3000, b"");
-    for (report, _, _) in &ARP_REPORTS {
+    let file = repeated(rt.alloc(), HEADER, RECORD, 3000, b"").expect(&rt, "memory");
+    for report in &REPORTS {
         let room = room_of_report(&rt, *report, &file);
         // Six groups of 56 bytes for each of 4 instructions, 16 bytes for how often it ran, and where blocks begin.
         let is_wanted = room_of_report(&rt, *report, HEADER) == room && room <= 4 * 354;
@@ -131,7 +133,9 @@ fn room_for_breakpoints(rt: HostRuntime) {
     let counting = FaultyAllocator::new(rt.alloc(), 0);
     assert_room(&rt, &counting, &counting, b"1,6 0 0 1");
     assert_room(&rt, &counting, &counting, STRAIGHT);
-    let longest = repeated(&rt, b"4096,", b"7 0 0 0,", 4095, b"6 0 0 1");
+    let longest = repeated(rt.alloc(), b"4096,", b"7 0 0 0,", 4095, b"6 0 0 1").expect(
+        &rt, "memory",
+    );
     assert_room(&rt, &counting, &counting, &longest);
     assert!(rt; counting.held() == 0);
 }
