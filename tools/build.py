@@ -3,12 +3,13 @@
 
 Two runs of rt in a checkout wait for each other where a crate is below both. So each crate is proved in a folder of its
 own below out/, which has it and the crates below it, and what was made of it goes back to the checkout. A check with one
-job takes the least processor time, as each job loads the whole crate. So only the crate for which most others wait gets
-more: half of the processors without work, or all that no other can use.
+job takes the least processor time, as each job loads the whole crate. So a crate gets more where processors are without
+work, and those get most for which most others wait.
 """
 
 import fcntl
 import hashlib
+import math
 import os
 import re
 import shutil
@@ -24,7 +25,7 @@ PROGRAM = "cbpf"
 # The most memory that a check takes, with some room to spare.
 CHECK_NEEDS = 7 << 29
 BEFOREHAND = """This proves what isn't proved yet, and builds the program. From nothing, and after `make check`, which keeps
-no proofs, that takes 20 to 60 minutes of processor time, divided among the processors; after a change a few."""
+no proofs, that takes 23 minutes on four processors and some half an hour on two; after a change a few."""
 
 
 def checks_at_a_time():
@@ -101,15 +102,17 @@ def take_back(lanes):
 def build(rows, said):
     """Proves all crates and builds the program, and says which crates are at work."""
     crates = crates_below(PROGRAM, rows)
+    # How many crates wait for each, with itself.
     waiting = {crate: sum(crate in crates_below(other, rows) for other in crates) for crate in crates}
     left, done, at_work = sorted(crates, key=lambda crate: -waiting[crate]), [], {}
     try:
         while left or at_work:
             ready = [crate for crate in left if set(crates_below(crate, rows)[:-1]) <= set(done)]
             idle = checks_at_a_time() - sum(lane.jobs for lane in at_work.values())
-            for crate in ready:
+            for place, crate in enumerate(ready):
                 if idle > 0:
-                    jobs = max((idle + 1) // 2, idle - len(ready) + 1) if crate == ready[0] else 1
+                    # The more crates wait for one, the more of the processors without work it gets.
+                    jobs = math.ceil(idle * waiting[crate] / sum(waiting[each] for each in ready[place:]))
                     left.remove(crate)
                     at_work[crate] = Lane(crate, jobs, rows)
                     idle -= jobs
