@@ -1,5 +1,5 @@
 -- What is left of a capture, by the bytes in front and those that a reader has left.
-use Rattle.std.proofs.Common.{◌≡◌, ℕ, zero, suc, ◌+◌, ◌<◌, ◌≤◌, List, [], ◌∷◌, ◌++◌, length, drop, arith, refl, sym, ap, ◌∙◌}
+use Rattle.std.proofs.Common.{◌≡◌, ℕ, zero, suc, ◌+◌, ◌<◌, ◌≤◌, List, [], ◌∷◌, ◌++◌, length, drop, take, take_all, ◌-◌, arith, refl, sym, ap, ◌∙◌}
 use Rattle.std.proofs.Common.{Option, Some, None, Ok, Err, inl, inr, length-drop, length-take, length-append, append-nil}
 use Rattle.std.specs.Prelude.{IfSome, IsSomeAnd}
 use Rattle.std.specs.Option.{option_map}
@@ -95,6 +95,10 @@ left-whole header n offset size xs ys e =
     let same = holds-once order (n + 1) (offset + size) (drop size xs ++ ys) _ _ _ _
     (contents-hold (length (drop size xs ++ ys)) order (n + 1) (offset + size) (drop size xs ++ ys) (omega arith)) rest in
     same_savefile _ _ refl refl (own.3 ∙ ap (λ (r : Record). r ∷ own.2) f.same ∙ ap (λ (rs : List Record). record_at order n offset xs ∷ rs) same.0) same.1
+
+-- the bytes from one on, up to the end
+pub all_after : (xs : List ℕ) (n : ℕ) → take (length xs - n) (drop n xs) ≡ drop n xs
+all_after xs n = take_all _ _ (omega (arith, length-drop n xs))
 
 pub has-record : (header : FileHeader) (n offset size : ℕ) (bytes : List ℕ) (b : Option (List ℕ))
     → extent_of header.magic.order bytes ≡ WholeRecord size

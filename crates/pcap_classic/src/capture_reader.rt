@@ -1,7 +1,8 @@
 //! A capture that is read record by record.
 
-ghost use Rattle.std.specs.Prelude.{◌≡◌, ◌≢◌, ◌<◌, ◌≤◌, length, true, None, IfSome, IfNone, IsSomeAnd, IfOk, OnOk, IfErr, IsErrOf};
+ghost use Rattle.std.specs.Prelude.{◌≡◌, ◌≢◌, ◌<◌, ◌≤◌, length, true, Ok, Some, None, IfSome, IfNone, IsSomeAnd, IfOk, OnOk, IfErr, IsErrOf};
 ghost use Rattle.std.specs.Borrow.{sem};
+ghost use Rattle.std.specs.Option.{MatchOption};
 ghost use Rattle.std.specs.Io.BufRead.{Rests};
 ghost use Rattle.std.specs.Io.KnownBytes.{Keeps, IsAtEnd, prepend_known};
 ghost use Rattle.pcap_classic.specs.Records as records;
@@ -231,6 +232,30 @@ impl<R: Read, A: Allocator> CaptureReader<R, A> {
         }
         self.ending = Some(ending_by(extent, start));
         Ok(None)
+    }
+
+    /// The next record, lent as [`CaptureReader::next_record`] lends it, where its bytes were read already; else `None`.
+    ///
+    /// Nothing is read. After `None` the reader is as it was, and `next_record` reads on.
+    #[inline(always)]
+    pub fn next_buffered(&mut self) -> Option<Captured<'_>>
+        ensures* { sem 𝓛 (Rests (the_row R.row A.row R.Read A.Allocator) self.entry
+            (λ new. MatchOption result (new ≡ self.old) (λ item. Proceeds self.old.count (Ok (Some item)) new
+            × IfSome self.old.left (λ c. Gives c (Ok (Some item)) new)))) }
+    {
+        let order = self.header.magic.order;
+        let Extent::WholeRecord(size) = extent_of(order, &self.window.as_slice()[self.last..])
+        else {
+            return None;
+        };
+        let start = self.offset;
+        let offset = start.checked_add(size)?;
+        self.window.take(self.last);
+        self.last = size;
+        self.count += 1;
+        self.offset = offset;
+        self.ending = None;
+        Some(front_record(order, self.count, start, self.window.as_slice()))
     }
 
     /// How many records were read. The numbers of the records that are left go on from there.
