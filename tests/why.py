@@ -103,6 +103,13 @@ class Debugged(NamedTuple):
         code, _, _, k = self.program[step.pc]
         return bool(code in JUMPS and COMPARED[code & ~BY_X](step.a, step.x if code & BY_X else k))
 
+    def decided(self, way):
+        """The conditional jump that decided where a packet returned, and which way it went, or nothing."""
+        tests = [step for step in way if self.program[step.pc][0] in JUMPS]
+        if not tests or not self.end(way).returned:
+            return None
+        return tests[-1], "true" if self.holds(tests[-1]) else "false"
+
     def counts(self):
         """How often each instruction ran, and how often its comparison held."""
         steps = [step for way in self.ways for step in way]
@@ -114,12 +121,10 @@ def summary(found):
     groups = {}
     for number, way in enumerate(found.ways, 1):
         end = found.end(way)
-        tests = [step for step in way if found.program[step.pc][0] in JUMPS]
-        if end.returned and tests:
-            last = tests[-1]
-            held = found.holds(last)
-            went = f"{found.listing[last.pc]}, {'true' if held else 'false'}, then {found.listing[end.pc]}"
-            place = (last.pc, not held)
+        if decided := found.decided(way):
+            test, direction = decided
+            went = f"{found.listing[test.pc]}, {direction}, then {found.listing[end.pc]}"
+            place = (test.pc, direction == "false")
         else:
             went = found.listing[end.pc] + ("" if end.returned else f", {end.why}")
             place = (end.pc, False)
@@ -131,8 +136,10 @@ def summary(found):
 
 
 def line_of_packet(found, number):
-    end = found.end(found.ways[number - 1])
-    yield f"{number}\t{end.verdict}\tl{end.pc}\t{end.why}"
+    way = found.ways[number - 1]
+    end, decided = found.end(way), found.decided(way)
+    jump, direction = (f"l{decided[0].pc}", decided[1]) if decided else ("-", "-")
+    yield f"{number}\t{end.verdict}\tl{end.pc}\t{end.why}\t{jump}\t{direction}"
 
 
 def registers(step):
@@ -146,10 +153,11 @@ def way_of_packet(found, number):
         to = f"\tto l{after.pc}" if after and found.program[step.pc][0] in [JA, *JUMPS] else ""
         yield f"{found.listing[step.pc]}\t{registers(step)}{to}"
     end = found.end(way)
-    tests = [step for step in way if found.program[step.pc][0] in JUMPS]
-    after = f", after {found.listing[tests[-1].pc]} with {registers(tests[-1])}" if tests else ""
-    why = "" if end.returned else f", {end.why}"
-    yield f"{end.verdict} at {found.listing[end.pc]}{why}" + (after if end.verdict == "fail" else "")
+    went = found.listing[end.pc] + ("" if end.returned else f", {end.why}")
+    if decided := found.decided(way):
+        test, direction = decided
+        went = f"{found.listing[test.pc]}, {direction} with {registers(test)}, then {went}"
+    yield f"{end.verdict} at {went}"
 
 
 def coverage(found):
@@ -490,7 +498,8 @@ def line_by_line(program, folder):
                 yield from fault_of(f"before packet {number} is whole", waits(process), True)
                 data = data[-1:]
             process.stdin.write(data)
-            yield from fault_of("a live pipe", process.stdout.readline(), b"%d\tpass\tl1\t%d\n" % (number, number))
+            wanted = b"%d\tpass\tl1\t%d\t-\t-\n" % (number, number)
+            yield from fault_of("a live pipe", process.stdout.readline(), wanted)
         process.stdin.close()
         got = process.stdout.read(), process.stderr.read(), process.wait()
         yield from fault_of("a live pipe's end", got, (b"", b"", 0))
@@ -502,7 +511,7 @@ def the_last_packet_ends_it(program, folder):
     with started([program, "why", "-p", "filter", "-", "2", "1"], folder) as process:
         process.stdin.write(header() + record(b"a") + record(b"b"))
         got = process.stdout.read(), process.wait()
-        yield from fault_of("the last packet", got, (b"1\tpass\tl0\t1\n2\tpass\tl0\t1\n", 0))
+        yield from fault_of("the last packet", got, (b"1\tpass\tl0\t1\t-\t-\n2\tpass\tl0\t1\t-\t-\n", 0))
     with started([program, "why", "filter", "-", "1-2"], folder) as process:
         process.stdin.write(header() + record(b"a"))
         lines = [b"packet 1\n", b"l0:\tret #0x1\tA 0 (0x0) X 0 (0x0)\n", b"pass at l0:\tret #0x1\n"]
@@ -528,7 +537,7 @@ def nothing_is_read_after_the_end(program, folder):
 def a_closed_output(program, folder):
     (folder / "filter").write_text("ret #1")
     (folder / "capture").write_bytes(header() + record(b"a") * 100_000)
-    for options, first in (["-p"], b"1\tpass\tl0\t1\n"), ([], b"packet 1\n"):
+    for options, first in (["-p"], b"1\tpass\tl0\t1\t-\t-\n"), ([], b"packet 1\n"):
         with started([program, "why", *options, "filter", "capture", "1-100000"], folder) as process:
             line = process.stdout.readline()
             process.stdout.close()
@@ -545,7 +554,7 @@ def an_interrupt(program, folder):
         line = process.stdout.readline()
         process.send_signal(signal.SIGINT)
         got = line, process.stdout.read(), process.wait()
-    yield from fault_of("SIGINT", got, (b"1\tpass\tl0\t1\n", b"", -signal.SIGINT))
+    yield from fault_of("SIGINT", got, (b"1\tpass\tl0\t1\t-\t-\n", b"", -signal.SIGINT))
 
 
 def a_read_that_fails(program, folder):
@@ -553,7 +562,7 @@ def a_read_that_fails(program, folder):
     what it was sent, and then an error."""
     (folder / "filter").write_text("ret #1")
     way = "packet 1\nl0:\tret #0x1\tA 0 (0x0) X 0 (0x0)\npass at l0:\tret #0x1\n"
-    due = {"-p": "1\tpass\tl0\t1\n", "- 1-9": way, "-": "", "-l": "", "-g": "", "- 7": ""}
+    due = {"-p": "1\tpass\tl0\t1\t-\t-\n", "- 1-9": way, "-": "", "-l": "", "-g": "", "- 7": ""}
     for options, wanted in due.items():
         own, other = socket.socketpair()
         other.send(b"never read")

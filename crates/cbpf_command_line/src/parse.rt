@@ -105,7 +105,7 @@ pub(crate) fn file_name<'a>(alloc: Global, id: &'a str, name: &'a str, help: &'a
     Arg::new(alloc, id).value_name(name).help(help)
 }
 
-/// A subcommand without arguments.
+/// A command without arguments.
 pub(crate) fn bare<'a>(
     alloc: Global,
     name: &'a str,
@@ -136,13 +136,17 @@ fn dbg_command<'a>(alloc: Global) -> Result<Command<'a>, AllocError>
         .arg(file_name(alloc, "output", "OUTPUT", REPLIES))
 }
 
+/// The program's command without subcommands.
+fn bare_command<'a>(alloc: Global) -> Command<'a>
+    ensures { app_of result ≡ spec.bare_app }
+{
+    bare(alloc, "cbpf", ABOUT, EXAMPLES).version(VERSION)
+}
+
 pub(crate) fn command<'a>(alloc: Global) -> Result<Command<'a>, AllocError>
     ensures { IfOk result (λ c. app_of c ≡ spec.app_without_why) }
 {
-    Command::new(alloc, "cbpf")
-        .version(VERSION)
-        .about(ABOUT)
-        .after_help(EXAMPLES)
+    bare_command(alloc)
         .subcommand(asm_command(alloc)?)?
         .subcommand(dbg_command(alloc)?)
 }
@@ -242,17 +246,24 @@ fn is_file_name(word: &str) -> bool {
     word.contains('.') || word.contains('/')
 }
 
-/// The error of a parse. Where the name of a file stands in the place of a subcommand, it names the one that runs a file.
+/// The error of a file's name in the place of a subcommand, which names the one that runs a file.
+fn script_tip(alloc: Global, kind: ErrorKind, name: &str) -> Result<Error, AllocError>
+    ensures { IfOk result (λ e. kind_of e ≡ kind) }
+{
+    let text = format!(in alloc;
+        "unrecognized subcommand '{name}'\n\n  tip: to run a debugger's script, use 'cbpf dbg {name}'"
+    )?;
+    command(alloc)?.error(kind, &text)
+}
+
+/// The error of a parse, with a tip where the name of a file stands in the place of a subcommand.
 fn with_tip(alloc: Global, words: &[String], error: Error) -> Result<Error, AllocError>
     ensures { IfOk result (λ e. kind_of e ≡ kind_of error) }
 {
     let kind = error.kind();
     match words.get(1) {
         Some(name) if kind == ErrorKind::InvalidSubcommand && is_file_name(name) => {
-            let text = format!(in alloc;
-                "unrecognized subcommand '{name}'\n\n  tip: to run a debugger's script, use 'cbpf dbg {name}'"
-            )?;
-            command(alloc)?.error(kind, &text)
+            script_tip(alloc, kind, name)
         }
         _ => Ok(error),
     }

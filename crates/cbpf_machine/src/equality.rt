@@ -10,7 +10,6 @@ use crate::pause::When;
 use crate::state::State;
 use crate::tally::Runs;
 use crate::values::Values;
-use crate::way::{Test, Way};
 
 /// Two values of a type are equal by `==` exactly where contracts see the same.
 pub fn equal_where_same()
@@ -23,8 +22,6 @@ pub fn equal_where_same()
     ensures packet_end { (a b : _) → Decides (⟦<PacketEnd as PartialEq>⟧.eq a b) (a ≡ b) }
     ensures choice { (a b : _) → Decides (⟦<Choice as PartialEq>⟧.eq a b) (a ≡ b) }
     ensures decided { (a b : _) → Decides (⟦<Decided as PartialEq>⟧.eq a b) (a ≡ b) }
-    ensures test { (a b : _) → Decides (⟦<Test as PartialEq>⟧.eq a b) (a ≡ b) }
-    ensures way { (a b : _) → Decides (⟦<Way as PartialEq>⟧.eq a b) (a ≡ b) }
     ensures runs { (a b : _) → Decides (⟦<Runs as PartialEq>⟧.eq a b) (a ≡ b) }
     ensures followed { (a b : _) → Decides (⟦<Followed as PartialEq>⟧.eq a b) (a ≡ b) }
     ensures packet { (a b : _) → Decides (⟦<Packet<'static> as PartialEq>⟧.eq a b)

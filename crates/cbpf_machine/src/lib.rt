@@ -44,5 +44,4 @@ pub use tally::{Runs, Tally};
 pub use task::Task;
 pub use trail::Trail;
 pub use values::Values;
-pub use way::{Test, Way, way_of_packet};
 pub use whole_packet::{outcome_of, run_packet};

@@ -5,14 +5,15 @@ ghost use Rattle.cbpf_code.specs.declared.checker.TheConstants.{MAX_INSTRUCTIONS
 ghost use Rattle.cbpf_machine.specs.Registers.{zero_state};
 ghost use Rattle.cbpf_machine.specs.InPlace.{turn_of};
 ghost use Rattle.cbpf_machine.specs.Trace.{last_or, outcome_of};
-ghost use Rattle.cbpf_machine.specs.Walk.{IsWay};
+ghost use Rattle.cbpf_machine.specs.Walk.{IsEnd};
 ghost use Rattle.cbpf_machine.specs.Task.{entries_in, outcome_in, turn_from};
 ghost use Rattle.cbpf_machine.specs.OnPacket.{in_task};
-ghost use Rattle.cbpf_machine.specs.Ways.{executed_in, last_test, runs_at, taken_in, test_of};
+ghost use Rattle.cbpf_machine.specs.Ways.{executed_in, runs_at, taken_in};
 
 use crate::meter::Meter;
+use crate::packet_end::PacketEnd;
 use crate::task::Task;
-use crate::way::{OnWay, Way};
+use crate::way::OnWay;
 use cbpf_code::{Program, SLOTS};
 use std::alloc::{AllocError, Allocator, Global};
 use std::marker::Model;
@@ -26,15 +27,15 @@ pub struct Runs {
     pub taken: u64,
 }
 
-/// Makes all turns of a packet and counts them: how many they are, and the packet's way.
+/// Makes all turns of a packet and counts them: how many they are, and how the packet ended.
 #[inline(always)]
-fn count_turns<A: Allocator>(task: &Task<'_, A>, runs: &mut [Runs]) -> (u32, Way)
+fn count_turns<A: Allocator>(task: &Task<'_, A>, runs: &mut [Runs]) -> (u32, PacketEnd)
     requires long { length runs.old ≡ length task.now.program.now }
     requires fits { (i : ℕ) → ((runs_at runs.old i).executed + 1 < 2 ^ 64) × ((runs_at runs.old i).taken + 1 < 2 ^ 64) }
     ensures turns { result.0 ≡ length (entries_in task.now) }
     ensures few { result.0 ≤ length task.now.program.now }
     ensures most { result.0 ≤ MAX_INSTRUCTIONS }
-    ensures way { IsWay (in_task task.now) result.1 }
+    ensures end { IsEnd (in_task task.now) result.1 }
     ensures long { length runs.new ≡ length runs.old }
     ensures executed { (i : ℕ) → (runs_at runs.new i).executed ≡ (runs_at runs.old i).executed
         + executed_in (entries_in task.now) i }
@@ -48,7 +49,7 @@ fn count_turns<A: Allocator>(task: &Task<'_, A>, runs: &mut [Runs]) -> (u32, Way
     let mut slots = [0; SLOTS];
     'turns: loop {
         let pc = walk.pc();
-        if let Some(reason) = walk.turn::<A, true>(task, &mut slots, &mut runs[pc]) {
+        if let Some(reason) = walk.turn(task, &mut slots, &mut runs[pc]) {
             return (walk.turns(), walk.ended(slots, reason));
         }
     }
@@ -109,19 +110,18 @@ impl<A: Allocator> Tally<A> {
         self.runs.as_slice()
     }
 
-    /// Runs a program on a packet as `way_of_packet` does, and counts its instructions. The program has as many
+    /// Runs a program on a packet as `end_of_packet` does, and counts its instructions. The program has as many
     /// instructions as that of the tally.
     ///
     /// Fewer than 2 to the 64 packets minus 1 were counted before. The meter is at least twice `MAX_INSTRUCTIONS`
     /// turns below 2 to the 128 before.
-    pub fn count_packet<B: Allocator>(&mut self, meter: &mut Meter, task: &Task<'_, B>) -> Way
+    pub fn count_packet<B: Allocator>(&mut self, meter: &mut Meter, task: &Task<'_, B>) -> PacketEnd
         requires long { length self.old.runs ≡ length task.now.program.now }
         requires few { self.old.packets + 1 < 2 ^ 64 }
         requires spare { meter.old + 2 * MAX_INSTRUCTIONS ≤ 2 ^ 128 }
-        ensures last { result.end.last ≡ last_or zero_state (entries_in task.now) }
-        ensures reason { turn_from task.now result.end.last ≡ turn_of result.end.reason }
-        ensures outcome { outcome_in task.now ≡ outcome_of (turn_of result.end.reason) }
-        ensures test { result.test ≡ option_map test_of (last_test task.now.program.now (entries_in task.now)) }
+        ensures last { result.last ≡ last_or zero_state (entries_in task.now) }
+        ensures reason { turn_from task.now result.last ≡ turn_of result.reason }
+        ensures outcome { outcome_in task.now ≡ outcome_of (turn_of result.reason) }
         ensures turns { meter.new ≡ meter.old + length (entries_in task.now) }
         ensures few { meter.new ≤ meter.old + length task.now.program.now }
         ensures packets { self.new.packets ≡ self.old.packets + 1 }
@@ -132,8 +132,8 @@ impl<A: Allocator> Tally<A> {
             + taken_in task.now.program.now (entries_in task.now) i }
     {
         self.packets += 1;
-        let (turns, way) = count_turns(task, self.runs.as_mut_slice());
+        let (turns, end) = count_turns(task, self.runs.as_mut_slice());
         meter.add(turns);
-        way
+        end
     }
 }

@@ -28,14 +28,14 @@ const ARP_WAYS: &[u8] = b"packet 1\n\
 l0:\tldh [12]\tA 0 (0x0) X 0 (0x0)\n\
 l1:\tjeq #0x806, l2, l3\tA 2054 (0x806) X 0 (0x0)\tto l2\n\
 l2:\tret #0xffffffff\tA 2054 (0x806) X 0 (0x0)\n\
-pass at l2:\tret #0xffffffff\n\
+pass at l1:\tjeq #0x806, l2, l3, true with A 2054 (0x806) X 0 (0x0), then l2:\tret #0xffffffff\n\
 packet 2\n\
 l0:\tldh [12]\tA 0 (0x0) X 0 (0x0)\n\
 l1:\tjeq #0x806, l2, l3\tA 2048 (0x800) X 0 (0x0)\tto l3\n\
 l3:\tret #0\tA 2048 (0x800) X 0 (0x0)\n\
-fail at l3:\tret #0, after l1:\tjeq #0x806, l2, l3 with A 2048 (0x800) X 0 (0x0)\n";
+fail at l1:\tjeq #0x806, l2, l3, false with A 2048 (0x800) X 0 (0x0), then l3:\tret #0\n";
 
-pub(crate) const ARP_LINES: &[u8] = b"1\tpass\tl2\t4294967295\n2\tfail\tl3\t0\n";
+pub(crate) const ARP_LINES: &[u8] = b"1\tpass\tl2\t4294967295\tl1\ttrue\n2\tfail\tl3\t0\tl1\tfalse\n";
 
 const ARP_COVERAGE: &[u8] = b"2\tl0:\tldh [12]\n\
 2\tl1:\tjeq #0x806, l2, l3\ttrue 1 false 1\n\
@@ -60,8 +60,8 @@ pub(crate) type Reported = (Report, &'static [u8], [usize; 3]);
 
 pub(crate) static ARP_REPORTS: [Reported; 5] = [
     (Report::Summary, ARP_SUMMARY, [0, 0, 0]),
-    (Report::Ways, ARP_WAYS, [0, 169, 380]),
-    (Report::Packets, ARP_LINES, [0, 21, 33]),
+    (Report::Ways, ARP_WAYS, [0, 234, 451]),
+    (Report::Packets, ARP_LINES, [0, 29, 50]),
     (Report::Coverage, ARP_COVERAGE, [0, 0, 0]),
     (Report::Graph, ARP_GRAPH, [0, 0, 0]),
 ];

@@ -24,7 +24,7 @@ pub first_all : (p : Decided → Bool) (q : Decided → Type 0) (xs : List Decid
 first_all p q [] h = tt
 first_all p q (x ∷ xs) h = first_of q (p x) x (filter p xs) (All-head q x xs h) (first_all p q xs (All-tail q x xs h))
 
-same_verdict : (v : Verdict) → is_verdict v v ≡ true
+pub same_verdict : (v : Verdict) → is_verdict v v ≡ true
 same_verdict Pass = refl
 same_verdict Fail = refl
 same_verdict Unknown = refl

@@ -69,11 +69,11 @@ range-starts q first records before old c w took few nothing = record {
       },
     )
 
-pub range-goes : {A P : Type 0} (q : Question P) (first : ℕ) (records : List Record) (before : ℕ) (old mid new : Reading)
-    (c d : Counted A) (u v w : Option (List ℕ)) (after : ℕ) (going : Going q first records before old.left mid.left c u v after)
+pub range-goes : {A P : Type 0} (q : Question P) (first : ℕ) (records : List Record) (before : ℕ) (left : Option Savefile) (mid new : Reading)
+    (c d : Counted A) (u v w : Option (List ℕ)) (after : ℕ) (going : Going q first records before left mid.left c u v after)
     → mid.count ≡ after → Stepped q first (records ++ going.more) mid new d v w true
-    → Going q first records before old.left new.left d u w (after + 1)
-range-goes q first records before old mid new c d u v w after going count step = record {
+    → Going q first records before left new.left d u w (after + 1)
+range-goes q first records before left mid new c d u v w after going count step = record {
   more = going.more ++ from_first first step.one;
   took = rw (sym (append_assoc records going.more (from_first first step.one))) step.took;
   few =
@@ -82,7 +82,7 @@ range-goes q first records before old mid new c d u v w after going count step =
       let most = count_by-le-length (λ r. nat_le first r.number) step.one in
       let same = ap length (append_assoc records going.more (from_first first step.one)) in
       omega (arith, long, at_most, most, step.is_one, going.few, same);
-  reads = known_more first old.left mid.left new.left before after going.more step.one going.reads
+  reads = known_more first left mid.left new.left before after going.more step.one going.reads
       (rw count at step.leaves) step.is_one;
   wrote = rw (flat_map-append (packet_text q.report (machine_in q)) going.more (from_first first step.one))
       (appended-then _ _ _ _ _ going.wrote step.wrote);

@@ -1,5 +1,5 @@
 -- Texts of the entries of a packet's trace, and where its last entry and its last conditional jump stand.
-use Rattle.std.proofs.Common.{◌≡◌, ℕ, zero, suc, ◌+◌, ◌<◌, List, [], ◌∷◌, ◌++◌, length, take, Option, Some, None, arith, refl, ap, take_all, append-nil}
+use Rattle.std.proofs.Common.{◌≡◌, ℕ, zero, suc, ◌+◌, ◌<◌, List, [], ◌∷◌, ◌++◌, length, take, Option, Some, None, arith, refl, sym, ◌∙◌, ap, take_all, append-nil}
 use Rattle.std.specs.Prelude.{Bool, true, false, filter, if◌then◌else◌, slice_get, option_map, IfSome}
 use Rattle.std.specs.List.{flat_map}
 use Rattle.std.proofs.lemmas.Grind.{flat_map-append}
@@ -17,9 +17,10 @@ use Rattle.cbpf_machine.specs.OnPacket.{OnPacket, IsOnTrace, trace_in, turn_in}
 use Rattle.cbpf_machine.specs.Trace.{last_or, next_of}
 use Rattle.cbpf_machine.specs.declared.outcome.Turn.{Turn}
 use Rattle.cbpf_machine.specs.declared.outcome.Turn.TheVariants.{Next, Returned, Outside, ZeroDivisor, Unknown}
-use Rattle.cbpf_machine.specs.Ways.{choice_at, is_test_at, last_choice, last_test, test_of}
-use Rattle.cbpf_machine.proofs.TraceLemmas.{goes_last, trace-is_run}
-use Rattle.cbpf_machine.proofs.WayLemmas.{take_next}
+use Rattle.cbpf_machine.specs.Ways.{choice_at, is_test_at, last_choice, last_test}
+use Rattle.cbpf_machine.proofs.TraceLemmas.{goes_at, goes_last, last_or-at, trace-is_run}
+use Rattle.cbpf_machine.proofs.WayLemmas.{last_test_more_no, last_test_more_yes, take_next}
+use Rattle.cbpf_why.specs.Ways.{test_of}
 
 -- the texts of the entries up to one, with its own
 module _ {t : OnPacket} {i : ℕ} {s : Registers} (here : IsOnTrace t i s) (f : Registers → List ℕ) where
@@ -59,36 +60,61 @@ filter_within n p [] h j s e = absurd cc
 filter_within n p (x ∷ xs) h j s e =
     either_within n (p x) x (filter p xs) (h 0 x refl) (filter_within n p xs (λ i u m. h (suc i) u m)) j s e
 
-test_within : (n : ℕ) (o : Option Registers) → ((s : Registers) → o ≡ Some s → s.pc < n)
-    → IfSome (option_map test_of o) (λ t. t.pc < n)
-test_within n None h = tt
-test_within n (Some s) h = h s refl
+test_within : (list : List Insn) (n : ℕ) (o : Option Registers) → ((s : Registers) → o ≡ Some s → s.pc < n)
+    → IfSome (option_map (test_of list) o) (λ t. t.0.pc < n)
+test_within list n None h = tt
+test_within list n (Some s) h = h s refl
 
 choice_within : (list : List Insn) (n : ℕ) (o : Option Registers) → ((s : Registers) → o ≡ Some s → s.pc < n)
     → IfSome (option_map (choice_at list) o) (λ c. c.pc < n)
 choice_within list n None h = tt
 choice_within list n (Some s) h = h s refl
 
--- the jump that decided is one that was made
-pub deciding_inside : (n : ℕ) (reason : End) (choice : Option Choice) → IfSome choice (λ c. c.pc < n)
-    → IfSome (deciding reason choice) (λ c. c.pc < n)
-deciding_inside n (end_is.Returned v) choice h = h
-deciding_inside n end_is.Outside choice h = tt
-deciding_inside n end_is.ZeroDivisor choice h = tt
-deciding_inside n (end_is.Unknown e) choice h = tt
+-- what decided is what was last
+pub deciding_inside : {T : Type 0} (Q : T → Type 0) (reason : End) (last : Option T) → IfSome last Q → IfSome (deciding reason last) Q
+deciding_inside Q (end_is.Returned v) last h = h
+deciding_inside Q end_is.Outside last h = tt
+deciding_inside Q end_is.ZeroDivisor last h = tt
+deciding_inside Q (end_is.Unknown e) last h = tt
 
 -- of a checked program
 module _ (t : OnPacket) (sound : IsSound t.machine.list) where
   pub last_inside : (last_or zero_state (trace_in t)).pc < length t.machine.list
   last_inside = last_within _ (trace_in t) zero_state (trace-is_run t sound).inside (sound_some t.machine.list sound)
 
-  pub test_inside : IfSome (option_map test_of (last_test t.machine.list (trace_in t))) (λ o. o.pc < length t.machine.list)
-  test_inside = test_within _ (last_test t.machine.list (trace_in t))
+  pub test_inside : IfSome (option_map (test_of t.machine.list) (last_test t.machine.list (trace_in t)))
+      (λ o. o.0.pc < length t.machine.list)
+  test_inside = test_within t.machine.list _ (last_test t.machine.list (trace_in t))
       (filter_within _ (is_test_at t.machine.list) (trace_in t) (trace-is_run t sound).inside _)
 
   pub choice_inside : IfSome (last_choice t.machine.list (trace_in t)) (λ c. c.pc < length t.machine.list)
   choice_inside = choice_within t.machine.list _ (last_test t.machine.list (trace_in t))
       (filter_within _ (is_test_at t.machine.list) (trace_in t) (trace-is_run t sound).inside _)
+
+-- the last conditional jump with an entry more
+tests_more : (list : List Insn) (xs : List Registers) (s : Registers) (b : Bool) → is_test_at list s ≡ b
+    → option_map (test_of list) (last_test list (xs ++ s ∷ []))
+    ≡ (if b then Some (test_of list s) else option_map (test_of list) (last_test list xs))
+tests_more list xs s true e = ap (option_map (test_of list)) (last_test_more_yes list xs s e)
+tests_more list xs s false e = ap (option_map (test_of list)) (last_test_more_no list xs s e)
+
+module _ {t : OnPacket} {i : ℕ} {s : Registers} (here : IsOnTrace t i s) where
+  pub test_next : (old new : Option (Choice × Registers))
+      → old ≡ option_map (test_of t.machine.list) (last_test t.machine.list (take i (trace_in t)))
+      → new ≡ (if is_test_at t.machine.list s then Some (test_of t.machine.list s) else old)
+      → new ≡ option_map (test_of t.machine.list) (last_test t.machine.list (take (i + 1) (trace_in t)))
+  test_next old new was is =
+      rw (take_next here) (rw was at is ∙ sym (tests_more t.machine.list (take i (trace_in t)) s _ refl))
+
+  -- at the last entry
+  pub test_last : (test : Option (Choice × Registers)) → next_of (turn_in t s) ≡ None
+      → test ≡ option_map (test_of t.machine.list) (last_test t.machine.list (take (i + 1) (trace_in t)))
+      → test ≡ option_map (test_of t.machine.list) (last_test t.machine.list (trace_in t))
+  test_last test end is =
+      let all : take (i + 1) (trace_in t) ≡ trace_in t = take_all _ _ (omega (arith, goes_last here end)) in rw all at is
+
+  pub last_is : next_of (turn_in t s) ≡ None → s ≡ last_or zero_state (trace_in t)
+  last_is end = sym (last_or-at (trace_in t) i zero_state s (goes_at here) (goes_last here end))
 
 -- a turn that goes on
 pub next_is : (o : Turn) (s : Registers) → next_of o ≡ Some s → o ≡ Next s

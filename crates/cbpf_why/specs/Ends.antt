@@ -1,7 +1,10 @@
 -- How a packet ends, where and why there (Linux Documentation/networking/filter: a filter runs to a return, whose value
 -- decides; the words are this project's own).
-use Rattle.std.specs.Prelude.{ℕ, Bool, true, false, List, [], ◌++◌, codes, decimal, map, Option, None}
+use Rattle.std.specs.Prelude.{ℕ, Bool, true, false, List, [], ◌∷◌, ◌++◌, codes, decimal, map, Option, None}
 use Rattle.cbpf_code.specs.Extension.{ext_name}
+use Rattle.cbpf_code.specs.Listing.{line_text}
+use Rattle.cbpf_code.specs.Text.{concat}
+use Rattle.cbpf_code.specs.declared.insn.Insn.{Insn}
 use Rattle.cbpf_machine.specs.Machine.{Machine}
 use Rattle.cbpf_machine.specs.Registers.{Registers, zero_state}
 use Rattle.cbpf_machine.specs.InPlace.{turn_of}
@@ -57,11 +60,11 @@ abbrev pub ends_of : Machine → List Record → List Ended
 ends_of m records = map (ended m) records
 
 -- the last conditional jump of a packet that ended for this reason, where it decided: where the packet returned
-abbrev pub deciding : End → Option Choice → Option Choice
-deciding (Returned v) choice = choice
-deciding Outside choice = None
-deciding ZeroDivisor choice = None
-deciding (Unknown e) choice = None
+abbrev pub deciding : {T : Type 0} → End → Option T → Option T
+deciding (Returned v) last = last
+deciding Outside last = None
+deciding ZeroDivisor last = None
+deciding (Unknown e) last = None
 
 -- how a packet ends, and which conditional jump decided that, if one did: the last one before a return
 abbrev pub decided : Machine → Record → Decided
@@ -87,10 +90,13 @@ verdict_text verdict_is.Pass = codes "pass"
 verdict_text verdict_is.Fail = codes "fail"
 verdict_text verdict_is.Unknown = codes "unknown"
 
--- which way a conditional jump went
-abbrev pub direction_text : Bool → List ℕ
-direction_text true = codes ", true, then "
-direction_text false = codes ", false, then "
+abbrev pub truth_text : Bool → List ℕ
+truth_text true = codes "true"
+truth_text false = codes "false"
+
+-- a conditional jump, and whether its comparison held
+abbrev pub test_text : List Insn → Choice → List ℕ
+test_text list c = concat (line_text list c.pc ∷ codes ", " ∷ truth_text c.taken ∷ [])
 
 abbrev pub verdict_in : Ended → List ℕ
 verdict_in e = verdict_text (verdict_of e.reason)

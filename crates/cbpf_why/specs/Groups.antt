@@ -13,7 +13,7 @@ use Rattle.cbpf_why.specs.declared.ended.Ended.{Ended}
 use Rattle.cbpf_why.specs.declared.groups.Group.{Group}
 use Rattle.cbpf_why.specs.declared.ended.Verdict.{Verdict}
 use Rattle.cbpf_why.specs.declared.ended.Verdict.TheVariants.{Pass, Fail, Unknown}
-use Rattle.cbpf_why.specs.Ends.{verdict_in, is_verdict, verdict_of, reason_after, direction_text}
+use Rattle.cbpf_why.specs.Ends.{verdict_in, is_verdict, verdict_of, reason_after, test_text}
 
 -- Groups stand in rows, in the order of their lines: two for each instruction. In its second row are the packets on which
 -- it decided as a conditional jump whose comparison didn't hold. In its first row are those on which it decided as one whose
@@ -32,19 +32,18 @@ is_in_group i v d = (row d == i) && is_verdict v (verdict_of d.ended.reason)
 abbrev pub group : List Decided → ℕ → Verdict → List Decided
 group ends i v = filter (is_in_group i v) ends
 
--- The line of a group, by how many packets it has and its first one. The verdict, the instructions and the text of the
--- reason are those of each packet of the group: from a conditional jump that decided, the way to the return is straight.
--- Only what a `ret a` returns may differ, and that isn't written.
-abbrev pub line_by : List Insn → ℕ → Ended → Option Choice → List ℕ
-line_by list count first None =
-    concat (verdict_in first ∷ codes " " ∷ decimal count ∷ codes " at " ∷ line_text list first.pc
-    ∷ reason_after first.reason ∷ codes ", first packet " ∷ decimal first.packet ∷ codes "\n" ∷ [])
-line_by list count first (Some c) =
-    concat (verdict_in first ∷ codes " " ∷ decimal count ∷ codes " at " ∷ line_text list c.pc ∷ direction_text c.taken
-    ∷ line_text list first.pc ∷ codes ", first packet " ∷ decimal first.packet ∷ codes "\n" ∷ [])
+-- where a packet ended: at its last instruction, or at a return, after the conditional jump that decided
+abbrev pub place_text : List Insn → Ended → Option Choice → List ℕ
+place_text list e None = line_text list e.pc ++ reason_after e.reason
+place_text list e (Some c) = concat (test_text list c ∷ codes ", then " ∷ line_text list e.pc ∷ [])
 
+-- The line of a group, by how many packets it has and its first one. The verdict, the instructions and the text of the
+-- reason are those of each packet of the group, as `SameEnd` says. Only what a `ret a` returns may differ, and that isn't
+-- written.
 abbrev pub group_line : List Insn → ℕ → Decided → List ℕ
-group_line list count first = line_by list count first.ended first.by
+group_line list count first =
+    concat (verdict_in first.ended ∷ codes " " ∷ decimal count ∷ codes " at " ∷ place_text list first.ended first.by
+    ∷ codes ", first packet " ∷ decimal first.ended.packet ∷ codes "\n" ∷ [])
 
 -- what is kept of a group: how many there are, and the first one
 abbrev pub group_kept : List Decided → Group

@@ -110,6 +110,11 @@ pub record Going {A P : Type 0} (q : Question P) (first : ℕ) (records : List R
   pub reads : TookFromKnown first old new before after more
   pub wrote : Appended w v (packets_text q.report (machine_in q) more)
 
+-- what is known of a range at `before` packets is known of it at `after`, and nothing was written meanwhile
+abbrev pub GoesOn : {A P : Type 0} → Question P → ℕ → Reading → Reading → Counted A → Counted A → ℕ → ℕ → Type 0
+GoesOn q first old new c d before after = (start : ℕ) (left : Option Savefile) (records : List Record) (w v : Option (List ℕ))
+    → Going q first records start left old.left c w v before → Going q first records start left new.left d w v after
+
 -- The same of all packets of a range. Where the last packet read has a number below the range's last, the end of the
 -- capture was reached, if the capture is known.
 pub record Ranged {A P : Type 0} (q : Question P) (range : PacketRange) (records : List Record) (before : ℕ)

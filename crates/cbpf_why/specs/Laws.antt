@@ -1,14 +1,19 @@
 -- What the verdicts and the totals of a report are, by the outcomes of packets (Linux Documentation/networking/filter: a
--- packet passes where a run of the filter on it returns a number other than 0).
-use Rattle.std.specs.Prelude.{◌≡◌, List, map, count_by}
+-- packet passes where a run of the filter on it returns a number other than 0); and what the packets of a group share.
+use Rattle.std.specs.Prelude.{◌≡◌, ◌<◌, ◌*◌, ◌+◌, ℕ, zero, suc, true, List, length, map, count_by}
+use Rattle.cbpf_code.specs.Sound.{IsSound}
+use Rattle.cbpf_machine.specs.declared.outcome.End.{End}
+use Rattle.cbpf_machine.specs.declared.outcome.End.TheVariants.{Returned, Outside, ZeroDivisor, Unknown}
 use Rattle.cbpf_machine.specs.Machine.{Machine}
 use Rattle.cbpf_machine.specs.Outcomes.{is_fail, is_pass, is_unknown}
 use Rattle.cbpf_machine.specs.Trace.{outcome}
 use Rattle.cbpf_machine.specs.declared.outcome.Outcome.{Outcome}
 use Rattle.cbpf_reply.specs.declared.reply.Counts.{Counts}
 use Rattle.pcap_classic.specs.Records.{Record}
-use Rattle.cbpf_why.specs.Ends.{ended, ends_of, kind_of, verdict_of}
-use Rattle.cbpf_why.specs.Groups.{totals}
+use Rattle.cbpf_why.specs.declared.ended.Decided.{Decided}
+use Rattle.cbpf_why.specs.declared.ended.Verdict.{Verdict}
+use Rattle.cbpf_why.specs.Ends.{decided, decided_of, ended, ends_of, kind_of, verdict_of}
+use Rattle.cbpf_why.specs.Groups.{count_of, group, is_in_group, row, totals}
 
 -- the outcomes of packets
 abbrev pub outcomes_of : Machine → List Record → List Outcome
@@ -25,3 +30,42 @@ VerdictIsOutcome = (m : Machine) (r : Record) → verdict_of (ended m r).reason 
 -- the totals count the outcomes
 abbrev pub TotalsCountOutcomes : Type 0
 TotalsCountOutcomes = (m : Machine) (records : List Record) → totals (ends_of m records) ≡ counts_of (outcomes_of m records)
+
+-- ---- groups, of which there is one for each row and verdict; all of a checked program
+
+-- a packet is in one group, and in no other
+pub record InOneGroup (n : ℕ) (d : Decided) : Type 0 where
+  pub inside : row d < 2 * n
+  pub there : is_in_group (row d) (verdict_of d.ended.reason) d ≡ true
+  pub alone : (i : ℕ) (v : Verdict) → is_in_group i v d ≡ true → (i ≡ row d) × (v ≡ verdict_of d.ended.reason)
+
+abbrev pub EachInOneGroup : Type 0
+EachInOneGroup = (m : Machine) → IsSound m.list → (r : Record) → InOneGroup (length m.list) (decided m r)
+
+-- the sum of the first n values of f
+abbrev pub sum_of_first : (ℕ → ℕ) → ℕ → ℕ
+sum_of_first f zero = 0
+sum_of_first f (suc n) = sum_of_first f n + f n
+
+-- the counts of a verdict's groups sum to its total
+abbrev pub GroupsSumToTotals : Type 0
+GroupsSumToTotals = (m : Machine) → IsSound m.list → (records : List Record) (v : Verdict)
+    → sum_of_first (λ i. length (group (decided_of m records) i v)) (2 * length m.list) ≡ count_of (ends_of m records) v
+
+-- why a packet ended, without the value that was returned
+abbrev pub without_value : End → End
+without_value (Returned v) = Returned 0
+without_value Outside = Outside
+without_value ZeroDivisor = ZeroDivisor
+without_value (Unknown e) = Unknown e
+
+-- two packets ended at the same instruction for the same reason, and the same way of the same jump decided, if one did
+pub record SameEnd (d e : Decided) : Type 0 where
+  pub pc : d.ended.pc ≡ e.ended.pc
+  pub by : d.by ≡ e.by
+  pub reason : without_value d.ended.reason ≡ without_value e.ended.reason
+
+-- all packets of a group ended so
+abbrev pub GroupsEndAlike : Type 0
+GroupsEndAlike = (m : Machine) → IsSound m.list → (i : ℕ) (v : Verdict) (r s : Record)
+    → is_in_group i v (decided m r) ≡ true → is_in_group i v (decided m s) ≡ true → SameEnd (decided m r) (decided m s)

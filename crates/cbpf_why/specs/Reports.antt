@@ -18,7 +18,7 @@ use Rattle.cbpf_why.specs.declared.report.Report.{Report}
 use Rattle.cbpf_why.specs.declared.report.Report.TheVariants.{Summary, Ways, Packets, Coverage, Graph}
 use Rattle.cbpf_why.specs.Chosen.{chosen}
 use Rattle.cbpf_why.specs.Coverage.{coverage_text}
-use Rattle.cbpf_why.specs.Ends.{alone_of, decided_of, ended, ends_of}
+use Rattle.cbpf_why.specs.Ends.{alone_of, decided, decided_of, ends_of}
 use Rattle.cbpf_why.specs.Graph.{graph_text}
 use Rattle.cbpf_why.specs.Groups.{groups_text, totals}
 use Rattle.cbpf_why.specs.Packets.{packet_line}
@@ -27,7 +27,7 @@ use Rattle.cbpf_why.specs.Ways.{way_text}
 -- what is written of each packet as it comes
 abbrev pub packet_text : Report → Machine → Record → List ℕ
 packet_text Ways m r = way_text m r
-packet_text Packets m r = packet_line (ended m r)
+packet_text Packets m r = packet_line (decided m r)
 packet_text Summary m r = []
 packet_text Coverage m r = []
 packet_text Graph m r = []

@@ -1,5 +1,5 @@
 -- The way of a packet: each instruction that it executes, with A and X before, and where a jump went; at last how the
--- packet ends, and where it fails, the last conditional jump before that (this project's own).
+-- packet ends, and where it returned, the last conditional jump before that (this project's own).
 use Rattle.std.specs.Prelude.{ℕ, List, [], ◌∷◌, ◌++◌, codes, decimal, Option, Some, None, option_map}
 use Rattle.std.specs.Prelude.{if◌then◌else◌}
 use Rattle.std.specs.List.{flat_map}
@@ -10,13 +10,11 @@ use Rattle.cbpf_machine.specs.Machine.{Machine}
 use Rattle.cbpf_machine.specs.Registers.{Registers}
 use Rattle.cbpf_machine.specs.Trace.{trace, next_of}
 use Rattle.cbpf_machine.specs.Turn.{turn}
-use Rattle.cbpf_machine.specs.Ways.{last_test, test_of}
-use Rattle.cbpf_machine.specs.declared.way.Test.{Test}
+use Rattle.cbpf_machine.specs.Ways.{choice_at, last_test}
+use Rattle.cbpf_machine.specs.declared.follow.Choice.{Choice}
 use Rattle.pcap_classic.specs.Records.{Record}
 use Rattle.cbpf_why.specs.declared.ended.Ended.{Ended}
-use Rattle.cbpf_why.specs.declared.ended.Verdict.{Verdict}
-use Rattle.cbpf_why.specs.declared.ended.Verdict.TheVariants.{Pass, Fail, Unknown}
-use Rattle.cbpf_why.specs.Ends.{ended, verdict_in, verdict_of, reason_after}
+use Rattle.cbpf_why.specs.Ends.{deciding, ended, verdict_in, reason_after, test_text}
 use Rattle.cbpf_why.specs.Operations.{is_op_at, is_jump}
 
 -- a register in decimal, and in hexadecimal without padding
@@ -42,26 +40,26 @@ step_line list s next =
 abbrev pub step_text : Machine → Record → Registers → List ℕ
 step_text m r s = step_line m.list s (next_of (turn m r.bytes r.wire s))
 
--- the conditional jump that came last before a packet failed
-abbrev pub test_text : List Insn → Option Test → List ℕ
-test_text list None = []
-test_text list (Some t) = concat (codes ", after " ∷ line_text list t.pc ∷ codes " with " ∷ registers_text t.a t.x ∷ [])
+-- a conditional jump, and the state before it, whose registers it compared
+abbrev pub test_of : List Insn → Registers → Choice × Registers
+test_of list s = (choice_at list s, s)
 
-abbrev pub test_after : List Insn → Verdict → Option Test → List ℕ
-test_after list Fail test = test_text list test
-test_after list Pass test = []
-test_after list Unknown test = []
+-- the conditional jump that decided, and what it compared, before what came then; nothing where no jump decided
+abbrev pub compared_then : List Insn → Option (Choice × Registers) → List ℕ
+compared_then list None = []
+compared_then list (Some t) =
+    concat (test_text list t.0 ∷ codes " with " ∷ registers_text t.1.a t.1.x ∷ codes ", then " ∷ [])
 
--- how the packet ends
-abbrev pub ended_text : List Insn → Ended → List ℕ
-ended_text list e = concat (verdict_in e ∷ codes " at " ∷ line_text list e.pc ∷ reason_after e.reason ∷ [])
-
-abbrev pub end_line : List Insn → Ended → Option Test → List ℕ
-end_line list e test = ended_text list e ++ (test_after list (verdict_of e.reason) test ++ codes "\n")
+-- how the packet ends, by its last conditional jump
+abbrev pub end_line : List Insn → Ended → Option (Choice × Registers) → List ℕ
+end_line list e last =
+    concat (verdict_in e ∷ codes " at " ∷ compared_then list (deciding e.reason last) ∷ line_text list e.pc
+    ∷ reason_after e.reason ∷ codes "\n" ∷ [])
 
 -- the packet's number, a line for each instruction that it executes, and how it ends
 unfoldable pub way_text : Machine → Record → List ℕ
 way_text m r =
     let entries = trace m r.bytes r.wire in
     with_number (codes "packet ") r.number (codes "\n")
-    ++ (flat_map (step_text m r) entries ++ end_line m.list (ended m r) (option_map test_of (last_test m.list entries)))
+    ++ (flat_map (step_text m r) entries
+    ++ end_line m.list (ended m r) (option_map (test_of m.list) (last_test m.list entries)))

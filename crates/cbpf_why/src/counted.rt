@@ -39,9 +39,8 @@ impl<A: Allocator + Copy> Counted<A> {
 }
 
 /// How a packet ends, and which conditional jump decided that.
-// It alone calls `decided_end`, and the summary alone calls it: so the loop over a packet is inlined there.
 #[inline(always)]
-fn end_of<P: Allocator>(question: &Question<'_, P>, item: &Captured<'_>) -> Decided
+pub(crate) fn end_of<P: Allocator>(question: &Question<'_, P>, item: &Captured<'_>) -> Decided
     ensures decided { result ≡ decided (machine_in question.now) (record_of item.now) }
     ensures inside { IsInside (length question.now.program.now) result }
 {
@@ -74,13 +73,12 @@ fn count_packet<P: Allocator, A: Allocator>(
         packet: packet_of(item),
         values: question.values,
     };
-    let way = tally.count_packet(&mut Meter::new(), &task);
-    Ended::of(item.number, &way.end)
+    let end = tally.count_packet(&mut Meter::new(), &task);
+    Ended::of(item.number, &end)
 }
 
 /// Counts a packet by how it ends.
-// Kept out of line: the loop over records stands alone.
-#[inline(never)]
+#[inline(always)]
 pub(crate) fn add_ended<P: Allocator, A: Allocator + Copy>(
     question: &Question<'_, P>,
     counted: &mut Counted<A>,

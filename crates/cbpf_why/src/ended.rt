@@ -1,12 +1,13 @@
 //! How a packet ends.
 
-ghost use Rattle.std.specs.Prelude.{◌≡◌, ◌≤◌, ◌+◌, ◌++◌, length};
+ghost use Rattle.std.specs.Prelude.{◌≡◌, ◌<◌, ◌≤◌, ◌+◌, ◌++◌, length};
 ghost use Rattle.cbpf_code.specs.declared.writing.TheConstants.{LINE_SIZE};
 ghost use Rattle.cbpf_why.specs.Ends as spec;
 ghost use Rattle.cbpf_why.specs.Groups as groups;
 
-use cbpf_code::{Line, ext_name};
+use cbpf_code::{Line, Program, ext_name, prepend_line};
 use cbpf_machine::{Choice, End, Outcome, PacketEnd};
+use std::alloc::Allocator;
 
 /// What a packet's end means for the packet.
 #[derive(Clone, Copy, Debug, PartialEq, Eq)]
@@ -63,19 +64,29 @@ pub(crate) struct Decided {
     pub(crate) by: Option<Choice>,
 }
 
+/// The last conditional jump of a packet that ended for this reason, where it decided: where the packet returned.
+#[inline(always)]
+pub(crate) fn deciding<T: Copy>(reason: End, last: Option<T>) -> Option<T>
+    ensures { result ≡ spec.deciding reason last }
+{
+    match reason {
+        End::Returned(_) => last,
+        End::Outside => None,
+        End::ZeroDivisor => None,
+        End::Unknown(_) => None,
+    }
+}
+
 impl Decided {
     /// A packet that ended, by its last conditional jump.
     #[inline(always)]
     pub(crate) fn of(ended: Ended, choice: Option<Choice>) -> Decided
         ensures { result ≡ record { ended = ended; by = spec.deciding ended.reason choice } }
     {
-        let by = match ended.reason {
-            End::Returned(_) => choice,
-            End::Outside => None,
-            End::ZeroDivisor => None,
-            End::Unknown(_) => None,
-        };
-        Decided { ended, by }
+        Decided {
+            ended,
+            by: deciding(ended.reason, choice),
+        }
     }
 
     /// The row of its group.
@@ -137,15 +148,23 @@ pub(crate) fn prepend_reason_after(line: &mut Line, end: End)
     line.prepend(b", ");
 }
 
-/// Puts which way a conditional jump went, in at most 14 bytes.
-pub(crate) fn prepend_direction(line: &mut Line, taken: bool)
-    requires { length line.old + 14 ≤ LINE_SIZE }
-    ensures text { line.new ≡ spec.direction_text taken ++ line.old }
-    ensures grown { length line.new ≤ length line.old + 14 }
+/// Puts whether a comparison held, in at most 5 bytes.
+pub(crate) fn prepend_truth(line: &mut Line, taken: bool)
+    requires { length line.old + 5 ≤ LINE_SIZE }
+    ensures text { line.new ≡ spec.truth_text taken ++ line.old }
+    ensures grown { length line.new ≤ length line.old + 5 }
 {
-    line.prepend(if taken {
-        b", true, then "
-    } else {
-        b", false, then "
-    });
+    line.prepend(if taken { b"true" } else { b"false" });
+}
+
+/// Puts a conditional jump, and whether its comparison held, in at most 84 bytes.
+pub(crate) fn prepend_test<A: Allocator>(line: &mut Line, p: &Program<A>, choice: Choice)
+    requires inside { choice.pc < length p.now }
+    requires room { length line.old + 84 ≤ LINE_SIZE }
+    ensures text { line.new ≡ spec.test_text p.now choice ++ line.old }
+    ensures grown { length line.new ≤ length line.old + 84 }
+{
+    prepend_truth(line, choice.taken);
+    line.prepend(b", ");
+    prepend_line(line, p, choice.pc);
 }

@@ -1,17 +1,15 @@
 //! How packets ended, counted.
 
-ghost use Rattle.std.specs.Prelude.{◌≡◌, ◌<◌, ◌+◌, ◌*◌, ◌^◌, ◌++◌, [], ◌∷◌, List, ℕ, length, IfSome, slice_get, replicate, IfOk, Some, None};
+ghost use Rattle.std.specs.Prelude.{◌≡◌, ◌<◌, ◌≤◌, ◌+◌, ◌*◌, ◌^◌, ◌++◌, [], ◌∷◌, List, ℕ, length, IfSome, slice_get, replicate, IfOk, Some, None};
 ghost use Rattle.cbpf_code.specs.Writing.{Wrote};
+ghost use Rattle.cbpf_code.specs.declared.writing.TheConstants.{LINE_SIZE};
 ghost use Rattle.cbpf_why.specs.declared.ended.Decided.{Decided as ADecided};
 ghost use Rattle.cbpf_why.specs.declared.ended.Verdict.{Verdict as AVerdict};
 ghost use Rattle.cbpf_why.specs.Ends.{verdict_of};
 ghost use Rattle.cbpf_why.specs.Groups as spec;
 
-use crate::ended::{
-    Decided, Ended, Verdict, prepend_direction, prepend_reason_after, prepend_verdict,
-};
+use crate::ended::{Decided, Verdict, prepend_reason_after, prepend_test, prepend_verdict};
 use cbpf_code::{Line, Program, WriteFault, prepend_line};
-use cbpf_machine::Choice;
 use cbpf_reply::Counts;
 use std::alloc::{AllocError, Allocator};
 use std::io::Write;
@@ -148,53 +146,24 @@ impl<A: Allocator + Copy> Groups<A> {
     }
 }
 
-/// Writes the line of a group that no jump decided, by how many packets it has and the first of them.
-fn write_ended_line<W: Write, P: Allocator>(
-    w: &mut W,
-    p: &Program<P>,
-    count: u64,
-    first: Ended,
-) -> Result<(), WriteFault>
-    requires { first.pc < length p.now }
-    ensures { Wrote (W.contents w.old) (W.contents w.new) result (spec.line_by p.now count first None) }
+/// Puts where a packet ended, after the conditional jump that decided, in at most 168 bytes.
+fn prepend_place<P: Allocator>(line: &mut Line, p: &Program<P>, decided: Decided)
+    requires inside { spec.IsInside (length p.now) decided }
+    requires room { length line.old + 168 ≤ LINE_SIZE }
+    ensures text { line.new ≡ spec.place_text p.now decided.ended decided.by ++ line.old }
+    ensures grown { length line.new ≤ length line.old + 168 }
 {
-    let mut line = Line::new();
-    line.prepend(b"\n");
-    line.prepend_u64(first.packet);
-    line.prepend(b", first packet ");
-    prepend_reason_after(&mut line, first.reason);
-    prepend_line(&mut line, p, first.pc);
-    line.prepend(b" at ");
-    line.prepend_u64(count);
-    line.prepend(b" ");
-    prepend_verdict(&mut line, first.verdict());
-    line.write(w)
-}
-
-/// Writes the line of a group that a jump decided, by how many packets it has and the first of them.
-fn write_decided_line<W: Write, P: Allocator>(
-    w: &mut W,
-    p: &Program<P>,
-    count: u64,
-    first: Ended,
-    by: Choice,
-) -> Result<(), WriteFault>
-    requires pc { first.pc < length p.now }
-    requires by { by.pc < length p.now }
-    ensures { Wrote (W.contents w.old) (W.contents w.new) result (spec.line_by p.now count first (Some by)) }
-{
-    let mut line = Line::new();
-    line.prepend(b"\n");
-    line.prepend_u64(first.packet);
-    line.prepend(b", first packet ");
-    prepend_line(&mut line, p, first.pc);
-    prepend_direction(&mut line, by.taken);
-    prepend_line(&mut line, p, by.pc);
-    line.prepend(b" at ");
-    line.prepend_u64(count);
-    line.prepend(b" ");
-    prepend_verdict(&mut line, first.verdict());
-    line.write(w)
+    match decided.by {
+        Some(choice) => {
+            prepend_line(line, p, decided.ended.pc);
+            line.prepend(b", then ");
+            prepend_test(line, p, choice);
+        }
+        None => {
+            prepend_reason_after(line, decided.ended.reason);
+            prepend_line(line, p, decided.ended.pc);
+        }
+    }
 }
 
 /// Writes the line of a group, by how many packets it has and the first of them.
@@ -207,10 +176,16 @@ fn write_group_line<W: Write, P: Allocator>(
     requires { spec.IsInside (length p.now) first }
     ensures { Wrote (W.contents w.old) (W.contents w.new) result (spec.group_line p.now count first) }
 {
-    match first.by {
-        Some(by) => write_decided_line(w, p, count, first.ended, by),
-        None => write_ended_line(w, p, count, first.ended),
-    }
+    let mut line = Line::new();
+    line.prepend(b"\n");
+    line.prepend_u64(first.ended.packet);
+    line.prepend(b", first packet ");
+    prepend_place(&mut line, p, first);
+    line.prepend(b" at ");
+    line.prepend_u64(count);
+    line.prepend(b" ");
+    prepend_verdict(&mut line, first.ended.verdict());
+    line.write(w)
 }
 
 /// Writes the line of a group, where it has packets.

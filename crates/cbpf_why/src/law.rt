@@ -1,10 +1,21 @@
 //! Laws of the definitions, which hold whatever a program does.
 
 ghost use Rattle.cbpf_why.specs.Laws.{VerdictIsOutcome, TotalsCountOutcomes};
+ghost use Rattle.cbpf_why.specs.Laws.{EachInOneGroup, GroupsEndAlike, GroupsSumToTotals};
 
 /// The verdict on a packet is the kind of the outcome that a run of the program on the packet has. So the totals of a
 /// report count the outcomes of its packets.
 pub fn totals_of_outcomes()
     ensures verdict { VerdictIsOutcome }
     ensures totals { TotalsCountOutcomes }
+{}
+
+/// Each packet of a checked program is in exactly one group, and the counts of a verdict's groups sum to its total. All
+/// packets of a group ended at the same instruction for the same reason, by the same way of the same conditional jump
+/// where one decided. So the line of a group, which names its first packet, is true of each. Only what a `ret a` returned
+/// may differ.
+pub fn laws_of_groups()
+    ensures once { EachInOneGroup }
+    ensures sums { GroupsSumToTotals }
+    ensures alike { GroupsEndAlike }
 {}

@@ -24,5 +24,5 @@ pub use ended::{Ended, Verdict};
 pub use equality::equal_where_same;
 pub use filter::{FilterFault, program_of};
 pub use job::{CaptureEnd, Question, WhyFault, why};
-pub use law::totals_of_outcomes;
+pub use law::{laws_of_groups, totals_of_outcomes};
 pub use report::Report;

@@ -6,23 +6,21 @@ ghost use Rattle.cbpf_code.specs.Writing.{Wrote};
 ghost use Rattle.pcap_classic.specs.Lent.{record_of};
 ghost use Rattle.pcap_classic.specs.Records.{Record};
 ghost use Rattle.cbpf_why.specs.Chosen.{AreSorted};
-ghost use Rattle.cbpf_why.specs.Ends.{ended};
+ghost use Rattle.cbpf_why.specs.Ends.{decided};
 ghost use Rattle.cbpf_why.specs.Job as spec;
 ghost use Rattle.cbpf_why.specs.Question.{machine_in};
 ghost use Rattle.cbpf_why.specs.Packets.{packet_line};
 ghost use Rattle.cbpf_why.specs.Reports as reports;
 ghost use Rattle.cbpf_why.specs.declared.job.WhyFault.TheVariants as fault;
+ghost use Rattle.cbpf_why.specs.declared.report.Report.TheVariants.{Summary};
 
 use crate::chosen::PacketRange;
-use crate::counted::{Counted, add_counted, add_ended};
-use crate::ended::Ended;
+use crate::counted::{Counted, add_counted, add_ended, end_of};
 use crate::job::{Question, WhyFault};
 use crate::packets::write_packet_line;
 use crate::report::Report;
 use crate::ways::write_way;
 use cbpf_code::WriteFault;
-use cbpf_machine::{Meter, Task, way_of_packet};
-use cbpf_reply::packet_of;
 use pcap_classic::{CaptureReader, Captured, ReadFault};
 use std::alloc::Allocator;
 use std::io::{Read, Write};
@@ -43,15 +41,9 @@ fn write_line_of<P: Allocator, W: Write>(
     item: &Captured<'_>,
 ) -> Result<(), WriteFault>
     ensures { Wrote (W.contents w.old) (W.contents w.new) result
-        (packet_line (ended (machine_in question.now) (record_of item.now))) }
+        (packet_line (decided (machine_in question.now) (record_of item.now))) }
 {
-    let task = Task {
-        program: question.program,
-        packet: packet_of(item),
-        values: question.values,
-    };
-    let way = way_of_packet(&mut Meter::new(), &task);
-    write_packet_line(w, Ended::of(item.number, &way.end))
+    write_packet_line(w, end_of(question, item))
 }
 
 /// Counts a packet, or writes what is to be reported of it.
@@ -135,6 +127,66 @@ fn take_next<P: Allocator, A: Allocator + Copy, R: Read, B: Allocator, W: Write>
     }
 }
 
+/// Counts the packets that were read already, up to the range's last number: how many were read after it.
+// Kept out of line: the loop over records stands alone.
+#[inline(never)]
+fn count_buffered<P: Allocator, A: Allocator + Copy, R: Read, B: Allocator>(
+    question: &Question<'_, P>,
+    counted: &mut Counted<A>,
+    reader: &mut CaptureReader<R, B>,
+    range: PacketRange,
+    before: u64,
+) -> u64
+    requires summary { question.now.report ≡ Summary }
+    requires begun { range.first ≤ before + 1 }
+    requires count { reader.old.count ≡ before }
+    requires few { before < 2 ^ 60 }
+    requires within { before ≤ range.last }
+    requires took { (records : List Record) × spec.Took question.now counted.old records × (length records ≤ before) }
+    ensures count { reader.new.count ≡ result }
+    ensures few { result < 2 ^ 60 }
+    ensures since { before ≤ result }
+    ensures within { result ≤ range.last }
+    ensures going { spec.GoesOn question.now range.first reader.old reader.new counted.old counted.new before result }
+{
+    let mut count = before;
+    'records: while count < range.last {
+        let Some(item) = reader.next_buffered() else {
+            return count;
+        };
+        add_ended(question, counted, &item);
+        count += 1;
+    }
+    count
+}
+
+/// Takes the packets that need no read and of which nothing is written, up to the range's last number: how many were read
+/// after it.
+#[inline(always)]
+fn take_ready<P: Allocator, A: Allocator + Copy, R: Read, B: Allocator>(
+    question: &Question<'_, P>,
+    counted: &mut Counted<A>,
+    reader: &mut CaptureReader<R, B>,
+    range: PacketRange,
+    before: u64,
+) -> u64
+    requires count { reader.old.count ≡ before }
+    requires few { before < 2 ^ 60 }
+    requires within { before ≤ range.last }
+    requires took { (records : List Record) × spec.Took question.now counted.old records × (length records ≤ before) }
+    ensures count { reader.new.count ≡ result }
+    ensures few { result < 2 ^ 60 }
+    ensures since { before ≤ result }
+    ensures within { result ≤ range.last }
+    ensures going { spec.GoesOn question.now range.first reader.old reader.new counted.old counted.new before result }
+{
+    if matches!(question.report, Report::Summary) && range.first <= before + 1 {
+        count_buffered(question, counted, reader, range, before)
+    } else {
+        before
+    }
+}
+
 /// Takes the packets of a range, where so many records were read before: how many were read after it. It is fewer than
 /// the range's last number only at the capture's end.
 fn take_range<P: Allocator, A: Allocator + Copy, R: Read, B: Allocator, W: Write>(
@@ -157,6 +209,10 @@ fn take_range<P: Allocator, A: Allocator + Copy, R: Read, B: Allocator, W: Write
 {
     let mut count = before;
     'records: while count < range.last {
+        count = take_ready(question, counted, reader, range, count);
+        if count == range.last {
+            return Ok(count);
+        }
         match take_next(question, counted, reader, w, range.first) {
             Ok(has_more) => {
                 if !has_more {

@@ -1,21 +1,21 @@
 //! The way of a packet through a program.
 
-ghost use Rattle.std.specs.Prelude.{◌≡◌, ◌<◌, ◌≤◌, ◌+◌, ◌++◌, length, IfSome, Some};
+ghost use Rattle.std.specs.Prelude.{◌≡◌, ◌<◌, ◌≤◌, ◌+◌, ◌++◌, length, IfOk, IfSome, Some, option_map, if◌then◌else◌};
 ghost use Rattle.std.specs.List.{flat_map};
 ghost use Rattle.cbpf_code.specs.Writing.{Wrote};
 ghost use Rattle.cbpf_code.specs.declared.writing.TheConstants.{LINE_SIZE};
 ghost use Rattle.cbpf_machine.specs.Machine.{machine_of};
 ghost use Rattle.cbpf_machine.specs.Trace.{next_of, trace};
+ghost use Rattle.cbpf_machine.specs.Ways.{is_test_at, last_test};
 ghost use Rattle.pcap_classic.specs.Lent.{record_of};
+ghost use Rattle.cbpf_why.specs.Ends as ends;
 ghost use Rattle.cbpf_why.specs.Operations.{is_op_at};
 ghost use Rattle.cbpf_why.specs.Operations as operations;
 ghost use Rattle.cbpf_why.specs.Ways as spec;
 
-use crate::ended::{Ended, Verdict, prepend_reason_after, prepend_verdict};
-use cbpf_code::{
-    Line, Op, Program, WriteFault, op_of, prepend_line, write_bytes, write_with_number,
-};
-use cbpf_machine::{Meter, Packet, State, Task, Test, Turn, Values, turn, way_of_packet};
+use crate::ended::{Ended, deciding, prepend_reason_after, prepend_test, prepend_verdict};
+use cbpf_code::{Line, Op, Program, WriteFault, op_of, prepend_line, write_with_number};
+use cbpf_machine::{Choice, End, Meter, Packet, State, Turn, Values, turn};
 use pcap_classic::Captured;
 use std::alloc::Allocator;
 use std::io::Write;
@@ -79,13 +79,48 @@ fn write_step<W: Write, A: Allocator>(
 }
 
 /// The state that a turn goes on with.
-fn next_state(turn: Turn) -> Option<State>
-    ensures { result ≡ next_of turn }
+fn next_state(turn: &Turn) -> Option<State>
+    ensures { result ≡ next_of turn.now }
 {
-    match turn {
+    match *turn {
         Turn::Next(next) => Some(next),
         _ => None,
     }
+}
+
+/// How a turn ends a packet. One that goes on ends none.
+fn end_by(turn: &Turn) -> End
+    ensures { result ≡ ends.end_by turn.now }
+{
+    match *turn {
+        Turn::Next(_) => End::Outside,
+        Turn::Returned(value) => End::Returned(value),
+        Turn::Outside => End::Outside,
+        Turn::ZeroDivisor => End::ZeroDivisor,
+        Turn::Unknown(ext) => End::Unknown(ext),
+    }
+}
+
+/// The last conditional jump after the instruction at a state, where this was the last one before.
+fn test_after<A: Allocator>(
+    p: &Program<A>,
+    s: &State,
+    before: Option<(Choice, State)>,
+) -> Option<(Choice, State)>
+    requires { s.now.pc < length p.now }
+    ensures { result ≡ (if is_test_at p.now s.now then Some (spec.test_of p.now s.now) else before) }
+{
+    match Choice::at(p, s) {
+        Some(choice) => Some((choice, *s)),
+        None => before,
+    }
+}
+
+/// How a packet ended, and its last conditional jump with the state before it.
+#[derive(Drop)]
+struct Walked {
+    ended: Ended,
+    test: Option<(Choice, State)>,
 }
 
 /// Writes each instruction that a packet executes.
@@ -94,10 +129,13 @@ fn write_steps<W: Write, A: Allocator>(
     p: &Program<A>,
     values: &Values,
     item: &Captured<'_>,
-) -> Result<(), WriteFault>
-    ensures { Wrote (W.contents w.old) (W.contents w.new) result
+) -> Result<Walked, WriteFault>
+    ensures wrote { Wrote (W.contents w.old) (W.contents w.new) result
         (flat_map (spec.step_text (machine_of p.now values.now) (record_of item.now))
         (trace (machine_of p.now values.now) item.now.bytes.now item.now.wire)) }
+    ensures ended { IfOk result (λ walked. walked.ended ≡ ends.ended (machine_of p.now values.now) (record_of item.now)) }
+    ensures test { IfOk result (λ walked. walked.test ≡ option_map (spec.test_of p.now)
+        (last_test p.now (trace (machine_of p.now values.now) item.now.bytes.now item.now.wire))) }
 {
     let packet = Packet {
         bytes: item.bytes,
@@ -106,67 +144,51 @@ fn write_steps<W: Write, A: Allocator>(
     let _sound = p.len();
     let mut meter = Meter::new();
     let mut s = State::zero();
+    let mut test = None;
     'turns: loop {
-        let next = next_state(turn(&mut meter, p, packet, values, &s));
+        test = test_after(p, &s, test);
+        let made = turn(&mut meter, p, packet, values, &s);
+        let next = next_state(&made);
         write_step(w, p, &s, &next)?;
         match next {
             Some(next) => s = next,
-            None => return Ok(()),
+            None => {
+                let ended = Ended {
+                    packet: item.number,
+                    pc: s.pc(),
+                    reason: end_by(&made),
+                };
+                return Ok(Walked { ended, test });
+            }
         }
     }
 }
 
-/// Writes the last conditional jump before a packet failed, if there was one.
-fn write_test<W: Write, A: Allocator>(
-    w: &mut W,
-    p: &Program<A>,
-    test: &Test,
-) -> Result<(), WriteFault>
-    requires { test.now.pc < length p.now }
-    ensures { Wrote (W.contents w.old) (W.contents w.new) result (spec.test_text p.now (Some test.now)) }
-{
-    let mut line = Line::new();
-    prepend_registers(&mut line, test.a, test.x);
-    line.prepend(b" with ");
-    prepend_line(&mut line, p, test.pc);
-    line.prepend(b", after ");
-    line.write(w)
-}
-
-/// Writes how a packet ended, without the line's end.
-fn write_ended<W: Write, A: Allocator>(
-    w: &mut W,
-    p: &Program<A>,
-    ended: Ended,
-) -> Result<(), WriteFault>
-    requires { ended.pc < length p.now }
-    ensures { Wrote (W.contents w.old) (W.contents w.new) result (spec.ended_text p.now ended) }
-{
-    let mut line = Line::new();
-    prepend_reason_after(&mut line, ended.reason);
-    prepend_line(&mut line, p, ended.pc);
-    line.prepend(b" at ");
-    prepend_verdict(&mut line, ended.verdict());
-    line.write(w)
-}
-
-/// Writes how a packet ended, and the last conditional jump before it failed, if it failed and there was one.
-#[tactic(auto, using(cbpf_code::proofs::WrittenLemmas::three, cbpf_code::proofs::WrittenLemmas::steps))]
+/// Writes how a packet ended, and the conditional jump that decided, if one did.
 fn write_end<W: Write, A: Allocator>(
     w: &mut W,
     p: &Program<A>,
-    ended: Ended,
-    test: &Option<Test>,
+    walked: &Walked,
 ) -> Result<(), WriteFault>
-    requires ended { ended.pc < length p.now }
-    requires test { IfSome test.now (λ t. t.pc < length p.now) }
-    ensures { Wrote (W.contents w.old) (W.contents w.new) result (spec.end_line p.now ended test.now) }
+    requires ended { walked.now.ended.pc < length p.now }
+    requires test { IfSome walked.now.test (λ t. t.0.pc < length p.now) }
+    ensures { Wrote (W.contents w.old) (W.contents w.new) result
+        (spec.end_line p.now walked.now.ended walked.now.test) }
 {
-    write_ended(w, p, ended)?;
-    if let (Verdict::Fail, Some(test)) = (ended.verdict(), test) {
-        write_test(w, p, test)?;
+    let ended = walked.ended;
+    let mut line = Line::new();
+    line.prepend(b"\n");
+    prepend_reason_after(&mut line, ended.reason);
+    prepend_line(&mut line, p, ended.pc);
+    if let Some((choice, s)) = deciding(ended.reason, walked.test) {
+        line.prepend(b", then ");
+        prepend_registers(&mut line, s.a(), s.x());
+        line.prepend(b" with ");
+        prepend_test(&mut line, p, choice);
     }
-    write_bytes(w, b"\n")
+    line.prepend(b" at ");
+    prepend_verdict(&mut line, ended.verdict());
+    line.write(w)
 }
 
 /// Writes the way of a packet.
@@ -182,16 +204,7 @@ pub(crate) fn write_way<W: Write, A: Allocator>(
         (spec.way_text (machine_of p.now values.now) (record_of item.now)) }
 {
     write_with_number(w, b"packet ", item.number, b"\n")?;
-    write_steps(w, p, values, item)?;
+    let walked = write_steps(w, p, values, item)?;
     let _sound = p.len();
-    let task = Task {
-        program: p,
-        packet: Packet {
-            bytes: item.bytes,
-            wire: item.wire,
-        },
-        values,
-    };
-    let way = way_of_packet(&mut Meter::new(), &task);
-    write_end(w, p, Ended::of(item.number, &way.end), &way.test)
+    write_end(w, p, &walked)
 }

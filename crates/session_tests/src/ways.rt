@@ -6,15 +6,19 @@ use crate::assertions::{Test, assert_at};
 use crate::inputs::program_of;
 use cbpf_code::{Ext, Program};
 use cbpf_machine::{
-    End, Meter, Packet, Runs, Tally, Task, Values, Way, end_of_packet, run_packet, way_of_packet,
+    Choice, End, Meter, Packet, PacketEnd, Runs, State, Tally, Task, Turn, Values, decided_end,
+    end_of_packet, run_packet, turn,
 };
 use std::alloc::Allocator;
 
 /// An instruction's number, with A and X before it.
 type Place = (u32, u32, u32);
 
+/// A conditional jump's number, and whether its comparison held.
+type Decision = (u32, bool);
+
 /// A program as word text, a packet's bytes, its last place, why it ends there, and its last conditional jump.
-type Row = (&'static [u8], &'static [u8], Place, End, Option<Place>);
+type Row = (&'static [u8], &'static [u8], Place, End, Option<Decision>);
 
 static ROWS: [Row; 10] = [
     (b"1,6 0 0 7", b"", (0, 0, 0), End::Returned(7), None),
@@ -32,7 +36,7 @@ static ROWS: [Row; 10] = [
         b"\x08\x06",
         (3, 6, 1),
         End::Outside,
-        Some((2, 6, 1)),
+        Some((2, true)),
     ),
     // `ld #9`, `jeq #9`, `div x`
     (
@@ -40,7 +44,7 @@ static ROWS: [Row; 10] = [
         b"",
         (2, 9, 0),
         End::ZeroDivisor,
-        Some((1, 9, 0)),
+        Some((1, true)),
     ),
     // `jge #5`, `ld mark`
     (
@@ -48,7 +52,7 @@ static ROWS: [Row; 10] = [
         b"",
         (1, 0, 0),
         End::Unknown(Ext::Mark),
-        Some((0, 0, 0)),
+        Some((0, false)),
     ),
     // A is another after the jump, `jgt x`.
     (
@@ -56,7 +60,7 @@ static ROWS: [Row; 10] = [
         b"",
         (4, 1, 3),
         End::Returned(1),
-        Some((2, 7, 3)),
+        Some((2, true)),
     ),
     // The last of two, and then `ja`.
     (
@@ -64,7 +68,7 @@ static ROWS: [Row; 10] = [
         b"",
         (5, 1, 0),
         End::Returned(0),
-        Some((2, 1, 0)),
+        Some((2, false)),
     ),
     // The jump that skips another.
     (
@@ -72,17 +76,16 @@ static ROWS: [Row; 10] = [
         b"",
         (4, 8, 0),
         End::Returned(8),
-        Some((0, 0, 0)),
+        Some((0, true)),
     ),
     // `ja` alone.
     (b"2,5 0 0 0,6 0 0 5", b"", (1, 0, 0), End::Returned(5), None),
 ];
 
-/// Whether a way is that of a row.
-fn goes_so(way: &Way, last: Place, reason: End, test: Option<Place>) -> bool {
-    let s = way.end.last;
-    let at = way.test.map(|t| (t.pc, t.a, t.x));
-    (s.pc(), s.a(), s.x()) == last && way.end.reason == reason && at == test
+/// Whether a packet's end is that of a row.
+fn ends_so(end: &PacketEnd, last: Place, reason: End) -> bool {
+    let s = end.last;
+    (s.pc(), s.a(), s.x()) == last && end.reason == reason
 }
 
 /// A program, a packet and values as one.
@@ -100,20 +103,38 @@ fn task<'a, A: Allocator>(
     }
 }
 
-/// Whether all three calls say so of a packet.
+/// The last conditional jump of a packet, turn by turn.
+fn last_choice<A: Allocator>(rt: &impl Test, task: &Task<'_, A>) -> Option<Choice> {
+    let mut meter = Meter::new();
+    let mut s = State::zero();
+    let mut last = None;
+    for _ in 0..task.program.len() {
+        assert!(rt; s.pc() < task.program.len() && meter.spent() < 100);
+        last = Choice::at(task.program, &s).or(last);
+        match turn(&mut meter, task.program, task.packet, task.values, &s) {
+            Turn::Next(next) => s = next,
+            _ => return last,
+        }
+    }
+    last
+}
+
+/// Whether all calls say so of a packet.
 fn all_say_so<A: Allocator>(rt: &impl Test, p: &Program<A>, row: &Row) -> bool {
-    let (_, bytes, last, reason, test) = *row;
+    let (_, bytes, last, reason, choice) = *row;
     let packet = Packet { bytes, wire: 60 };
     let values = Values::new();
     let task = task(p, packet, &values);
-    let way = way_of_packet(&mut Meter::new(), &task);
+    let decided = decided_end(&mut Meter::new(), &task);
     let end = end_of_packet(&mut Meter::new(), &task);
     let mut tally = Tally::new(rt.alloc(), p).expect(rt, "the tally");
     let counted = tally.count_packet(&mut Meter::new(), &task);
     let outcome = run_packet(&mut Meter::new(), p, packet, &values);
-    goes_so(&way, last, reason, test)
-        && end == way.end
-        && counted == way
+    ends_so(&end, last, reason)
+        && decided.end == end
+        && decided.choice.map(|c| (c.pc, c.taken)) == choice
+        && last_choice(rt, &task) == decided.choice
+        && counted == end
         && end.outcome() == outcome
 }
 

@@ -149,7 +149,7 @@ static WITHOUT_ROOM: [(Report, &[u8]); 5] = [
         Report::Ways,
         b"packet 1\nl0:\tldh [12]\tA 0 (0x0) X 0 (0x0)\nfail at l0:\tldh [12], outside the packet\n",
     ),
-    (Report::Packets, b"1\tfail\tl0\toutside the packet\n"),
+    (Report::Packets, b"1\tfail\tl0\toutside the packet\t-\t-\n"),
     (Report::Coverage, b""),
     (Report::Graph, b""),
 ];

@@ -68,7 +68,7 @@ fn said(
     text
 }
 
-const FIRST: &[u8] = b"1\tpass\tl2\t4294967295\n";
+const FIRST: &[u8] = b"1\tpass\tl2\t4294967295\tl1\ttrue\n";
 
 const CUT: &[u8] = b"cbpf: pcap: 1 packets, cut record data at 82\n";
 

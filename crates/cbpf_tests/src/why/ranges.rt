@@ -34,13 +34,16 @@ fn lines(rt: &impl Test, ranges: &[PacketRange], wanted: Option<CaptureEnd>, tex
     assert_named(rt, source.calls() == read, "the reads", text.len());
 }
 
-const FIRST_TWO: &[u8] = b"1\tpass\tl1\t60\n2\tpass\tl1\t60\n";
+const FIRST_TWO: &[u8] = b"1\tpass\tl1\t60\t-\t-\n2\tpass\tl1\t60\t-\t-\n";
 
-const FOURTH: &[u8] = b"4\tpass\tl1\t60\n";
+const FOURTH: &[u8] = b"4\tpass\tl1\t60\t-\t-\n";
 
-const TWO_TO_FIVE: &[u8] = b"2\tpass\tl1\t60\n3\tpass\tl1\t60\n4\tpass\tl1\t60\n5\tpass\tl1\t60\n";
+const TWO_TO_FIVE: &[u8] = b"2\tpass\tl1\t60\t-\t-\n\
+3\tpass\tl1\t60\t-\t-\n\
+4\tpass\tl1\t60\t-\t-\n\
+5\tpass\tl1\t60\t-\t-\n";
 
-const LAST_TWO: &[u8] = b"6\tpass\tl1\t60\n7\tpass\tl1\t60\n";
+const LAST_TWO: &[u8] = b"6\tpass\tl1\t60\t-\t-\n7\tpass\tl1\t60\t-\t-\n";
 
 // The records end at the bytes 44, 64, 81, 97, 116, 133 and 153. After the last one a read finds the end.
 #[test]

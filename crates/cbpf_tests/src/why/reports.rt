@@ -58,7 +58,7 @@ l8:\tjmp l10\tA 2 (0x2) X 0 (0x0)\tto l10\n\
 l10:\tldh [2]\tA 2 (0x2) X 0 (0x0)\n\
 l11:\tjeq #0x806, l12, l13\tA 2054 (0x806) X 0 (0x0)\tto l12\n\
 l12:\tret #0x40000\tA 2054 (0x806) X 0 (0x0)\n\
-pass at l12:\tret #0x40000\n\
+pass at l11:\tjeq #0x806, l12, l13, true with A 2054 (0x806) X 0 (0x0), then l12:\tret #0x40000\n\
 packet 2\n\
 l0:\tldb [0]\tA 0 (0x0) X 0 (0x0)\n\
 l1:\tjeq #0x1, l2, l3\tA 3 (0x3) X 0 (0x0)\tto l3\n\
@@ -68,12 +68,12 @@ l8:\tjmp l10\tA 3 (0x3) X 0 (0x0)\tto l10\n\
 l10:\tldh [2]\tA 3 (0x3) X 0 (0x0)\n\
 l11:\tjeq #0x806, l12, l13\tA 2048 (0x800) X 0 (0x0)\tto l13\n\
 l13:\tret #0\tA 2048 (0x800) X 0 (0x0)\n\
-fail at l13:\tret #0, after l11:\tjeq #0x806, l12, l13 with A 2048 (0x800) X 0 (0x0)\n\
+fail at l11:\tjeq #0x806, l12, l13, false with A 2048 (0x800) X 0 (0x0), then l13:\tret #0\n\
 packet 3\n\
 l0:\tldb [0]\tA 0 (0x0) X 0 (0x0)\n\
 l1:\tjeq #0x1, l2, l3\tA 1 (0x1) X 0 (0x0)\tto l2\n\
 l2:\tdiv x\tA 1 (0x1) X 0 (0x0)\n\
-fail at l2:\tdiv x, division by 0, after l1:\tjeq #0x1, l2, l3 with A 1 (0x1) X 0 (0x0)\n\
+fail at l2:\tdiv x, division by 0\n\
 packet 4\n\
 l0:\tldb [0]\tA 0 (0x0) X 0 (0x0)\n\
 fail at l0:\tldb [0], outside the packet\n\
@@ -84,7 +84,7 @@ l3:\tjeq #0x2, l4, l4\tA 2 (0x2) X 0 (0x0)\tto l4\n\
 l4:\tjgt #0x3, l5, l8\tA 2 (0x2) X 0 (0x0)\tto l8\n\
 l8:\tjmp l10\tA 2 (0x2) X 0 (0x0)\tto l10\n\
 l10:\tldh [2]\tA 2 (0x2) X 0 (0x0)\n\
-fail at l10:\tldh [2], outside the packet, after l4:\tjgt #0x3, l5, l8 with A 2 (0x2) X 0 (0x0)\n\
+fail at l10:\tldh [2], outside the packet\n\
 packet 6\n\
 l0:\tldb [0]\tA 0 (0x0) X 0 (0x0)\n\
 l1:\tjeq #0x1, l2, l3\tA 9 (0x9) X 0 (0x0)\tto l3\n\
@@ -101,15 +101,15 @@ l8:\tjmp l10\tA 2 (0x2) X 0 (0x0)\tto l10\n\
 l10:\tldh [2]\tA 2 (0x2) X 0 (0x0)\n\
 l11:\tjeq #0x806, l12, l13\tA 2054 (0x806) X 0 (0x0)\tto l12\n\
 l12:\tret #0x40000\tA 2054 (0x806) X 0 (0x0)\n\
-pass at l12:\tret #0x40000\n";
+pass at l11:\tjeq #0x806, l12, l13, true with A 2054 (0x806) X 0 (0x0), then l12:\tret #0x40000\n";
 
-const LINES: &[u8] = b"1\tpass\tl12\t262144\n\
-2\tfail\tl13\t0\n\
-3\tfail\tl2\tdivision by 0\n\
-4\tfail\tl0\toutside the packet\n\
-5\tfail\tl10\toutside the packet\n\
-6\tunknown\tl5\tmark has no value\n\
-7\tpass\tl12\t262144\n";
+const LINES: &[u8] = b"1\tpass\tl12\t262144\tl11\ttrue\n\
+2\tfail\tl13\t0\tl11\tfalse\n\
+3\tfail\tl2\tdivision by 0\t-\t-\n\
+4\tfail\tl0\toutside the packet\t-\t-\n\
+5\tfail\tl10\toutside the packet\t-\t-\n\
+6\tunknown\tl5\tmark has no value\t-\t-\n\
+7\tpass\tl12\t262144\tl11\ttrue\n";
 
 const COVERAGE: &[u8] = b"7\tl0:\tldb [0]\n\
 6\tl1:\tjeq #0x1, l2, l3\ttrue 1 false 5\n\
@@ -184,23 +184,23 @@ l0:\tldb [0]\tA 0 (0x0) X 0 (0x0)\n\
 l1:\tjset #0x1, l3, l2\tA 6 (0x6) X 0 (0x0)\tto l2\n\
 l2:\tldxb 4*([0]&0xf)\tA 6 (0x6) X 0 (0x0)\n\
 l3:\tret a\tA 6 (0x6) X 24 (0x18)\n\
-pass at l3:\tret a\n\
+pass at l1:\tjset #0x1, l3, l2, false with A 6 (0x6) X 0 (0x0), then l3:\tret a\n\
 packet 2\n\
 l0:\tldb [0]\tA 0 (0x0) X 0 (0x0)\n\
 l1:\tjset #0x1, l3, l2\tA 0 (0x0) X 0 (0x0)\tto l2\n\
 l2:\tldxb 4*([0]&0xf)\tA 0 (0x0) X 0 (0x0)\n\
 l3:\tret a\tA 0 (0x0) X 0 (0x0)\n\
-fail at l3:\tret a, after l1:\tjset #0x1, l3, l2 with A 0 (0x0) X 0 (0x0)\n\
+fail at l1:\tjset #0x1, l3, l2, false with A 0 (0x0) X 0 (0x0), then l3:\tret a\n\
 packet 3\n\
 l0:\tldb [0]\tA 0 (0x0) X 0 (0x0)\n\
 l1:\tjset #0x1, l3, l2\tA 5 (0x5) X 0 (0x0)\tto l3\n\
 l3:\tret a\tA 5 (0x5) X 0 (0x0)\n\
-pass at l3:\tret a\n\
+pass at l1:\tjset #0x1, l3, l2, true with A 5 (0x5) X 0 (0x0), then l3:\tret a\n\
 packet 4\n\
 l0:\tldb [0]\tA 0 (0x0) X 0 (0x0)\n\
 l1:\tjset #0x1, l3, l2\tA 9 (0x9) X 0 (0x0)\tto l3\n\
 l3:\tret a\tA 9 (0x9) X 0 (0x0)\n\
-pass at l3:\tret a\n";
+pass at l1:\tjset #0x1, l3, l2, true with A 9 (0x9) X 0 (0x0), then l3:\tret a\n";
 
 const RET_A_GRAPH: &[u8] = b"digraph filter {\n\
 node [shape=box fontname=monospace]\n\

@@ -48,7 +48,7 @@ fn text_of(rt: &impl Test, report: Report) -> Vec<u8> {
             );
         }
         Report::Ways => put_numbered(rt, &mut text, b"packet ", 5000, WAY),
-        Report::Packets => put_numbered(rt, &mut text, b"", 5000, b"\tpass\tl4095\t1\n"),
+        Report::Packets => put_numbered(rt, &mut text, b"", 5000, b"\tpass\tl4095\t1\t-\t-\n"),
         Report::Coverage => {
             put(rt, &mut text, b"5000\tl0:\tjmp l4095\n");
             put_numbered(rt, &mut text, b"0\tl", 4094, b":\ttax\n");

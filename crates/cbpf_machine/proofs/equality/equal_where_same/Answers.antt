@@ -5,11 +5,9 @@ use Rattle.std.proofs.lemmas.Slice.Eq.{slice_eq-Decides}
 use Rattle.std.proofs.lemmas.Bool.Decides.{Decides-and}
 use Rattle.cbpf_machine.specs.declared.packet_end.Decided.{Decided}
 use Rattle.cbpf_machine.specs.declared.packet_end.PacketEnd.{PacketEnd}
-use Rattle.cbpf_machine.specs.declared.way.Way.{Way}
 use Rattle.cbpf_machine.specs.contracts.state.StatePartialEq.TheImpl as states
 use Rattle.cbpf_machine.specs.contracts.packet_end.PacketEndPartialEq.TheImpl as packet_ends
 use Rattle.cbpf_machine.specs.contracts.packet_end.DecidedPartialEq.TheImpl as decideds
-use Rattle.cbpf_machine.specs.contracts.way.WayPartialEq.TheImpl as ways
 use Rattle.cbpf_machine.proofs.equality.equal_where_same.Goals as goal
 
 at-place : (a b : Option ℕ) → Decides (option_eq nat_eq a b) (a ≡ b)
@@ -46,16 +44,4 @@ pub returns-clause-decided : goal.returns-clause-decided
 returns-clause-decided c a b = (
   (λ e. whole-decided a b ((decided-by-field a b).0 e)),
   λ e. (decided-by-field a b).1 (ap (λ s. s.end) e, ap (λ s. s.choice) e),
-)
-
-ways-by-field : (a b : Way) → Decides (ways.ghosts.eq a b) ((a.end ≡ b.end) × (a.test ≡ b.test))
-ways-by-field a b = Decides-and (packet_ends.ghosts.eq a.end b.end) _ (end-same a.end b.end) (search rules)
-
-whole-way : (a b : Way) → (a.end ≡ b.end) × (a.test ≡ b.test) → a ≡ b
-whole-way a b e = search rules
-
-pub returns-clause-way : goal.returns-clause-way
-returns-clause-way c a b = (
-  (λ e. whole-way a b ((ways-by-field a b).0 e)),
-  λ e. (ways-by-field a b).1 (ap (λ s. s.end) e, ap (λ s. s.test) e),
 )

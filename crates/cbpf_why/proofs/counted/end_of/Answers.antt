@@ -1,5 +1,6 @@
 use Rattle.std.proofs.Common.{◌<◌, ◌∙◌, length}
 use Rattle.std.specs.Prelude.{IfSome}
+use Rattle.cbpf_machine.specs.declared.follow.Choice.{Choice}
 use Rattle.cbpf_machine.specs.OnPacket.{OnPacket}
 use Rattle.pcap_classic.specs.Lent.{record_of}
 use Rattle.cbpf_why.specs.Question.{machine_in}
@@ -30,5 +31,6 @@ returns-clause-inside g c =
     rw (c.decided_end-decided.ensures.choice, c.packet_of.ensures) (choice_inside task c.len-sound.ensures.sound) in
     rw c.of-2.ensures (record {
       pc = pc;
-      by = deciding_inside (length c.args.question.now.program.now) c.of.result.reason c.decided_end-decided.result.choice choice;
+      by = deciding_inside (λ (o : Choice). o.pc < length c.args.question.now.program.now) c.of.result.reason
+          c.decided_end-decided.result.choice choice;
     })

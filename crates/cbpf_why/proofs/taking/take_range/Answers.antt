@@ -16,37 +16,54 @@ records-init g c = record {
 pub records-preserved : goal.records-preserved
 records-preserved g c =
     let before = c.records.invariant in
+    let ready = c.take_ready-count.ensures in
     let was = c.requires.took in
-    let first = before.going was.0 was.1 was.2 in
+    let first = ready.going _ _ was.0 _ _ (before.going was.0 was.1 was.2) in
     let is : c.in-Ok.has_more ≡ true = grind arith in
     let step = rw is at (c.in-Ok.ensures (was.0 ++ first.more) first.took) in
     record {
-      count = omega (arith, step.count, step.is_one, before.count);
-      few = let less = step.few (omega (arith, before.few, before.count)) in
-          omega (arith, less, step.count, step.is_one, before.count);
-      since = omega (arith, before.since);
-      up_to = λ h. omega arith;
+      count = omega (arith, step.count, step.is_one, ready.count);
+      few = let less = step.few (omega (arith, ready.few, ready.count)) in
+          omega (arith, less, step.count, step.is_one, ready.count);
+      since = omega (arith, before.since, ready.since);
+      up_to = λ h. omega (arith, ready.within);
       going = λ records took few.
-          let going = before.going records took few in
-          range-goes c.args.question.now c.args.range.first records c.args.before c.args.reader.now c.records.reader
-          c.take_next.new.reader c.records.counted c.take_next.new.counted _ _ _ c.records.count going before.count
-          (rw is at (c.in-Ok.ensures (records ++ going.more) going.took));
+          let going = ready.going _ _ records _ _ (before.going records took few) in
+          range-goes c.args.question.now c.args.range.first records c.args.before c.args.reader.now.left
+          c.take_ready-count.new.reader c.take_next.new.reader c.take_ready-count.new.counted c.take_next.new.counted _ _ _
+          c.take_ready-count.result going ready.count (rw is at (c.in-Ok.ensures (records ++ going.more) going.took));
+    }
+
+pub returns-then-count-range : goal.returns-then-count-range
+returns-then-count-range g c = λ records took few.
+    let before = c.records.invariant in
+    let ready = c.take_ready-count.ensures in
+    record {
+      going = ready.going _ _ records _ _ (before.going records took few);
+      since = omega (arith, before.since, ready.since);
+      up_to = λ h. ready.within;
+      most = ready.few;
+      count = ready.count;
+      ends = λ h. absurd (omega arith);
     }
 
 pub returns-in-Err : goal.returns-in-Err
 returns-in-Err g c = λ records took few.
     let before = c.records.invariant in
-    let going = before.going records took few in
-    range-fails c.args.question.now c.args.range records c.args.before c.args.reader.now c.records.reader
-    c.take_next.new.reader c.records.counted _ _ _ c.records.count c.in-Err.fault going before.count (omega arith)
-    (c.in-Err.ensures (records ++ going.more) going.took)
+    let ready = c.take_ready-count.ensures in
+    let going = ready.going _ _ records _ _ (before.going records took few) in
+    range-fails c.args.question.now c.args.range records c.args.before c.args.reader.now c.take_ready-count.new.reader
+    c.take_next.new.reader c.take_ready-count.new.counted _ _ _ c.take_ready-count.result c.in-Err.fault going ready.count
+    (omega arith) (c.in-Err.ensures (records ++ going.more) going.took)
 
 pub returns-then-not-has_more : goal.returns-then-not-has_more
 returns-then-not-has_more g c = λ records took few.
     let before = c.records.invariant in
-    let going = before.going records took few in
+    let ready = c.take_ready-count.ensures in
+    let going = ready.going _ _ records _ _ (before.going records took few) in
     let is : c.in-Ok.has_more ≡ false = grind arith in
     let step = rw is at (c.in-Ok.ensures (records ++ going.more) going.took) in
-    range-ends c.args.question.now c.args.range records c.args.before c.args.reader.now c.records.reader
-    c.take_next.new.reader c.records.counted c.take_next.new.counted _ _ _ c.records.count step.one going before.count
-    before.since before.up_to before.few step.is_one step.took step.count step.leaves (step.ends refl) step.wrote
+    range-ends c.args.question.now c.args.range records c.args.before c.args.reader.now c.take_ready-count.new.reader
+    c.take_next.new.reader c.take_ready-count.new.counted c.take_next.new.counted _ _ _ c.take_ready-count.result step.one
+    going ready.count (omega (arith, before.since, ready.since)) (λ h. ready.within) ready.few
+    step.is_one step.took step.count step.leaves (step.ends refl) step.wrote
