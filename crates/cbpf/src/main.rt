@@ -12,10 +12,26 @@ use cbpf_tool::{
     read_request, request_status, run_request, write_remarks,
 };
 use std::alloc::Allocator;
-use std::io::{self, BufWriter, ErrorKind, Printer, Write};
+use std::io::{self, BufWriter, ErrorKind, Printer, Read, Write};
 use std::process::ExitCode;
 use std::rt::{Env, Files};
 use std::{env, fs};
+
+/// A file or the standard input, as one type: so the compiler makes one copy of each loop over what they read.
+#[derive(Drop)]
+enum Source<F, I> {
+    File(F),
+    Input(I),
+}
+
+impl<F: Read, I: Read> Read for Source<F, I> {
+    fn read(&mut self, buf: &mut [u8]) -> io::Result<usize> {
+        match self {
+            Source::File(file) => file.read(buf),
+            Source::Input(input) => input.read(buf),
+        }
+    }
+}
 
 /// The machine that `rt` reaches. What it holds is not known.
 #[derive(Drop)]
@@ -26,9 +42,9 @@ struct RealHost<'a, R> {
 impl<'a, R: Input + Print + Files + AllocGlobal> Host for RealHost<'a, R> {
     ghost view = { λ _. unknown };
 
-    type Source = R::File;
+    type Source = Source<R::File, R::Reader>;
 
-    type Input = R::Reader;
+    type Input = Source<R::File, R::Reader>;
 
     type Sink = BufWriter<R::File>;
 
@@ -36,12 +52,12 @@ impl<'a, R: Input + Print + Files + AllocGlobal> Host for RealHost<'a, R> {
 
     type Disk = DiskFiles<'a, R>;
 
-    fn open(&mut self, name: &str) -> io::Result<R::File> {
-        fs::open(self.rt, name)
+    fn open(&mut self, name: &str) -> io::Result<Source<R::File, R::Reader>> {
+        Ok(Source::File(fs::open(self.rt, name)?))
     }
 
-    fn input(&mut self) -> R::Reader {
-        self.rt.reader()
+    fn input(&mut self) -> Source<R::File, R::Reader> {
+        Source::Input(self.rt.reader())
     }
 
     fn create(&mut self, name: &str) -> Result<BufWriter<R::File>, CreateFault> {

@@ -47,8 +47,14 @@ pub struct Decided {
 /// Runs a program on a packet as `end_of_packet` does, and finds which way the last conditional jump went.
 ///
 /// The meter is at least twice `MAX_INSTRUCTIONS` turns below 2 to the 128 before.
+///
+/// `COPY` is any number from 3 on, and changes nothing but speed: the compiler inlines the loop over the instructions where
+/// one place alone calls it by this number.
 #[inline(always)]
-pub fn decided_end<A: Allocator>(meter: &mut Meter, task: &Task<'_, A>) -> Decided
+pub fn decided_end<A: Allocator, const COPY: u32>(
+    meter: &mut Meter,
+    task: &Task<'_, A>,
+) -> Decided
     requires { meter.old + 2 * MAX_INSTRUCTIONS ≤ 2 ^ 128 }
     ensures last { result.end.last ≡ last_or zero_state (entries_in task.now) }
     ensures reason { turn_from task.now result.end.last ≡ turn_of result.end.reason }
@@ -61,7 +67,7 @@ pub fn decided_end<A: Allocator>(meter: &mut Meter, task: &Task<'_, A>) -> Decid
     let mut core = Core::zero();
     let mut slots = [0; SLOTS];
     let mut choice = None;
-    let (turns, end) = make_turns::<_, A, 3>(
+    let (turns, end) = make_turns::<_, A, COPY>(
         &Never,
         false,
         None,
@@ -95,5 +101,5 @@ pub fn end_of_packet<A: Allocator>(meter: &mut Meter, task: &Task<'_, A>) -> Pac
     ensures turns { meter.new ≡ meter.old + length (entries_in task.now) }
     ensures few { meter.new ≤ meter.old + length task.now.program.now }
 {
-    decided_end(meter, task).end
+    decided_end::<A, 3>(meter, task).end
 }

@@ -68,8 +68,9 @@ fn run_line<A: Allocator + Copy, W: Write, F: Files>(
     }
 }
 
-/// Runs the lines of the input up to `quit`, in a session with nothing loaded. `line` is room for one line.
-// It takes references, so that no exit drops anything: that keeps its proof short.
+/// Runs the lines of the input up to `quit`, in a session with nothing loaded, and then flushes the writer. `line` is
+/// room for one line.
+// It takes references, so that no exit drops anything: that keeps its proof short. `debug` drops them at its only exit.
 fn run_lines<A: Allocator + Copy, R: Read, W: Write, F: Files>(
     alloc: A,
     reader: &mut R,
@@ -91,7 +92,7 @@ fn run_lines<A: Allocator + Copy, R: Read, W: Write, F: Files>(
         }
         match lines.next_line(reader, line) {
             Err(fault) => return Err(fault),
-            Ok(None) => return Ok(()),
+            Ok(None) => return flush(writer),
             Ok(Some(end)) => {
                 let said = command_of(line.as_slice());
                 if let Err(fault) = flush_if(writer, may_take_long(&said)) {
@@ -99,10 +100,10 @@ fn run_lines<A: Allocator + Copy, R: Read, W: Write, F: Files>(
                 }
                 match run_line(alloc, writer, session, files, said) {
                     Err(_) => return Err(ToolFault::Write),
-                    Ok(AfterLine::Quit) => return Ok(()),
+                    Ok(AfterLine::Quit) => return flush(writer),
                     Ok(AfterLine::NextLine) => match end {
                         LineEnd::Newline => {}
-                        LineEnd::Input => return Ok(()),
+                        LineEnd::Input => return flush(writer),
                     },
                 }
             }
@@ -143,6 +144,5 @@ pub fn debug<A: Allocator, R: Read, W: Write, F: Files>(
         &mut session,
         &mut lines,
         &mut line,
-    )?;
-    flush(writer)
+    )
 }

@@ -39,8 +39,12 @@ impl<A: Allocator + Copy> Counted<A> {
 }
 
 /// How a packet ends, and which conditional jump decided that.
+// `COPY` gives the loop over records a copy of the loop over instructions, which is inlined there.
 #[inline(always)]
-pub(crate) fn end_of<P: Allocator>(question: &Question<'_, P>, item: &Captured<'_>) -> Decided
+pub(crate) fn end_of<P: Allocator, const COPY: u32>(
+    question: &Question<'_, P>,
+    item: &Captured<'_>,
+) -> Decided
     ensures decided { result ≡ decided (machine_in question.now) (record_of item.now) }
     ensures inside { IsInside (length question.now.program.now) result }
 {
@@ -50,7 +54,7 @@ pub(crate) fn end_of<P: Allocator>(question: &Question<'_, P>, item: &Captured<'
         packet: packet_of(item),
         values: question.values,
     };
-    let decided = decided_end(&mut Meter::new(), &task);
+    let decided = decided_end::<P, COPY>(&mut Meter::new(), &task);
     Decided::of(Ended::of(item.number, &decided.end), decided.choice)
 }
 
@@ -79,7 +83,7 @@ fn count_packet<P: Allocator, A: Allocator>(
 
 /// Counts a packet by how it ends.
 #[inline(always)]
-pub(crate) fn add_ended<P: Allocator, A: Allocator + Copy>(
+pub(crate) fn add_ended<P: Allocator, A: Allocator + Copy, const COPY: u32>(
     question: &Question<'_, P>,
     counted: &mut Counted<A>,
     item: &Captured<'_>,
@@ -89,7 +93,7 @@ pub(crate) fn add_ended<P: Allocator, A: Allocator + Copy>(
     ensures { (records : List Record) → spec.Took question.now counted.old records
         → spec.Took question.now counted.new (records ++ record_of item.now ∷ []) }
 {
-    counted.groups.add(end_of(question, item));
+    counted.groups.add(end_of::<P, COPY>(question, item));
 }
 
 /// Counts a packet by how it ends, and its instructions.

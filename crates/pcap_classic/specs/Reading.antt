@@ -1,9 +1,12 @@
 -- What a reader of a capture has read, and what is left of the capture.
 use Rattle.std.specs.Prelude.{◌≡◌, ◌≢◌, ℕ, ◌+◌, ◌<◌, ◌^◌, List, [], ◌∷◌, length, Option, Some, None, Result, Ok, Err, IsSome}
+use Rattle.pcap_classic.specs.Contents.{extent_of}
 use Rattle.pcap_classic.specs.Lent.{record_of}
 use Rattle.pcap_classic.specs.Records.{Record}
 use Rattle.pcap_classic.specs.Savefile.{Savefile, IsRefusal, capture_fault}
 use Rattle.pcap_classic.specs.declared.captured.Captured.{Captured}
+use Rattle.pcap_classic.specs.declared.captured.Endianness.{Endianness}
+use Rattle.pcap_classic.specs.declared.captured.Extent.TheVariants.{WholeRecord}
 use Rattle.pcap_classic.specs.declared.captured.TheConstants.{RECORD_HEADER}
 use Rattle.pcap_classic.specs.declared.ending.Ending.{Ending, TheVariants.CutData}
 use Rattle.pcap_classic.specs.declared.reading.ReadFault.{ReadFault, TheVariants.Memory, TheVariants.Read}
@@ -49,3 +52,8 @@ HasRecord s = s.records ≢ []
 abbrev pub IsOpenFault : List ℕ → OpenFault → Type 0
 IsOpenFault file (open_fault.Header fault) = IsRefusal (capture_fault fault) file
 IsOpenFault file (open_fault.Read fault) = Unit {0}
+
+-- where the end of a capture was found, no whole record stands in front
+abbrev pub NoneLeftWhere : Option Ending → Endianness → List ℕ → Type 0
+NoneLeftWhere None order bytes = Unit {0}
+NoneLeftWhere (Some how) order bytes = (size : ℕ) → extent_of order bytes ≡ WholeRecord size → ⊥

@@ -110,7 +110,7 @@ impl<R: Read, A: Allocator> Model for CaptureReader<R, A> {
     ghost use Rattle.std.specs.Option.{option_map};
     ghost use Rattle.std.specs.Io.KnownBytes.{prepend_known};
     ghost use Rattle.pcap_classic.specs.Contents.{savefile_from};
-    ghost use Rattle.pcap_classic.specs.Reading.{Reading};
+    ghost use Rattle.pcap_classic.specs.Reading.{NoneLeftWhere, Reading};
     ghost use Rattle.pcap_classic.specs.declared.captured.TheConstants.{RECORD_HEADER};
     ghost use Rattle.pcap_classic.specs.declared.header.TheConstants.{FILE_HEADER};
 
@@ -123,7 +123,8 @@ impl<R: Read, A: Allocator> Model for CaptureReader<R, A> {
           (prepend_known (drop r.last r.window) (R.remaining r.reader));
     } };
 
-    ghost invariant = { λ r. (r.last ≤ length r.window) × (RECORD_HEADER * r.count + FILE_HEADER ≤ r.offset) };
+    ghost invariant = { λ r. (r.last ≤ length r.window) × (RECORD_HEADER * r.count + FILE_HEADER ≤ r.offset)
+        × NoneLeftWhere r.ending r.header.magic.order (drop r.last r.window) };
 }
 
 impl<R: Read, A: Allocator> CaptureReader<R, A> {
@@ -254,7 +255,6 @@ impl<R: Read, A: Allocator> CaptureReader<R, A> {
         self.last = size;
         self.count += 1;
         self.offset = offset;
-        self.ending = None;
         Some(front_record(order, self.count, start, self.window.as_slice()))
     }
 

@@ -4,7 +4,7 @@ use Rattle.cbpf_dbg.specs.View.{View}
 use Rattle.cbpf_tool.specs.LineReader.{pending_in}
 use Rattle.cbpf_tool.proofs.ScriptLemmas.{Progress}
 use Rattle.cbpf_tool.proofs.ScriptLemmas.{progress-start, line-faulted, write-faulted, quit-done, line-done, end-done}
-use Rattle.cbpf_tool.proofs.ScriptLemmas.{last-done, next, next-whole, next-last, unflushed}
+use Rattle.cbpf_tool.proofs.ScriptLemmas.{last-done, next, next-whole, next-last, unflushed, ended}
 use Rattle.cbpf_tool.proofs.debugger.run_lines.Goals as goal
 
 pub script-init : goal.script-init
@@ -36,7 +36,10 @@ returns-in-Ok-None g c = λ script e is_known.
     let p = c.script.invariant script e is_known in
     let t = rw c.in-Ok-None.field-0-is at (c.in-Ok-None.ensures.line p.rest p.known) in
     record {
-      outcome = end-done p _ c.flush_if.ensures.kept _ t.0 t.1;
+      outcome = ended script (g.R.Read.remaining c.next_line.new.reader) (g.W.Write.contents c.args.writer.now)
+          (g.W.Write.contents c.flush_if.new.w) (g.W.Write.contents c.flush.new.w)
+          (g.F.Files.source c.args.files.now) (g.F.Files.source c.script.files) c.flush.result
+          (end-done p _ c.flush_if.ensures.kept _ t.0 t.1) c.flush.ensures.kept c.flush.ensures.fault;
     }
 
 -- ---- a line
@@ -71,9 +74,13 @@ returns-in-Ok-Quit g c = λ script e is_known.
     let after = next p.rest pending c.next_line.new.line.items (g.R.Read.remaining c.next_line.new.reader)
     c.in-Ok-Some.end c.as_slice.ensures.value t in
     record {
-      outcome = quit-done p _ (Keeps-trans _ _ _ c.flush_if.ensures.kept c.flush_if-in-Ok-Some.ensures.kept)
+      outcome = ended script (g.R.Read.remaining c.next_line.new.reader) (g.W.Write.contents c.args.writer.now)
+          (g.W.Write.contents c.run_line.new.w) (g.W.Write.contents c.flush-in-Ok-Quit.new.w)
+          (g.F.Files.source c.args.files.now) (g.F.Files.source c.run_line.new.files) c.flush-in-Ok-Quit.result
+          (quit-done p _ (Keeps-trans _ _ _ c.flush_if.ensures.kept c.flush_if-in-Ok-Some.ensures.kept)
           _ c.run_line.new.session _ after.1 is_known _
-          (rw (← c.command_of-said.ensures) (rw c.in-Ok-Quit.field-0-is at (c.in-Ok-Quit.ensures {u = tt})));
+          (rw (← c.command_of-said.ensures) (rw c.in-Ok-Quit.field-0-is at (c.in-Ok-Quit.ensures {u = tt}))))
+          c.flush-in-Ok-Quit.ensures.kept c.flush-in-Ok-Quit.ensures.fault;
     }
 
 pub script-preserved : goal.script-preserved
@@ -90,7 +97,11 @@ returns-in-Input g c = λ script e is_known.
     let p = c.script.invariant script e is_known in
     let t = rw c.in-Input.is at (rw c.in-Ok-Some.field-0-is at (c.in-Ok-Some.ensures.line p.rest p.known)) in
     record {
-      outcome = last-done p _ (Keeps-trans _ _ _ c.flush_if.ensures.kept c.flush_if-in-Ok-Some.ensures.kept)
+      outcome = ended script (g.R.Read.remaining c.next_line.new.reader) (g.W.Write.contents c.args.writer.now)
+          (g.W.Write.contents c.run_line.new.w) (g.W.Write.contents c.flush-in-Input.new.w)
+          (g.F.Files.source c.args.files.now) (g.F.Files.source c.run_line.new.files) c.flush-in-Input.result
+          (last-done p _ (Keeps-trans _ _ _ c.flush_if.ensures.kept c.flush_if-in-Ok-Some.ensures.kept)
           _ c.run_line.new.session _ (next-last c.as_slice.ensures.value t.0 t.3 t.1) is_known _ t.2 refl
-          (rw (← c.command_of-said.ensures) (rw c.in-Ok-NextLine.field-0-is at (c.in-Ok-NextLine.ensures {u = tt})));
+          (rw (← c.command_of-said.ensures) (rw c.in-Ok-NextLine.field-0-is at (c.in-Ok-NextLine.ensures {u = tt}))))
+          c.flush-in-Input.ensures.kept c.flush-in-Input.ensures.fault;
     }

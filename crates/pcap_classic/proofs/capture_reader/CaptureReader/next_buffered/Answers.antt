@@ -1,9 +1,12 @@
 use Rattle.std.proofs.Common.{◌≡◌, ◌+◌, ◌<◌, ◌^◌, drop, ap, refl, sym, ◌∙◌, None, arith}
+use Rattle.std.specs.Prelude.{Option, Some}
 use Rattle.std.proofs.KnownBytes.{Keeps-refl}
 use Rattle.pcap_classic.specs.Contents.{extent_of}
 use Rattle.pcap_classic.specs.declared.captured.Extent.TheVariants.{WholeRecord}
 use Rattle.pcap_classic.specs.Lent.{record_of}
+use Rattle.pcap_classic.specs.Reading.{NoneLeftWhere}
 use Rattle.pcap_classic.specs.Records.{Record, record_at}
+use Rattle.pcap_classic.specs.declared.ending.Ending.{Ending}
 use Rattle.pcap_classic.proofs.ReadingLemmas.{all_after, given}
 use Rattle.pcap_classic.proofs.capture_reader.CaptureReader.next_buffered.Goals as goal
 
@@ -21,11 +24,16 @@ returns g c =
         refl,
         λ _. tt,
         (
-          (ap (λ (r : Record). r.number) is, refl, few, refl),
+          (ap (λ (r : Record). r.number) is, refl, few, unended w.ending c.self.invariant.2),
           given w.header (w.count + 1) (w.count + 1) w.offset c.in-WholeRecord.size c.in_ok-offset.offset
-              (drop w.last w.window) c.take.new.self _ _ None item (rw c.take.ensures (Keeps-refl _))
+              (drop w.last w.window) c.take.new.self _ _ w.ending item (rw c.take.ensures (Keeps-refl _))
               whole c.in_ok-offset.ensures.1 is,
         ),
       ),
       tt,
     )
+  where
+    unended : (o : Option Ending) → NoneLeftWhere o c.self.inside.header.magic.order (drop c.self.inside.last c.self.inside.window) → o ≡ None
+    unended None h = refl
+    unended (Some how) h = absurd (h _ (rw (c.as_slice.ensures, all_after c.self.inside.window c.self.inside.last) at
+        (sym c.extent_of.ensures ∙ c.in-WholeRecord.is)))
