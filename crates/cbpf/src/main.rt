@@ -6,6 +6,7 @@ ghost use Rattle.std.specs.Process.{exit_status};
 ghost use Rattle.cbpf_tool.specs.Hosted.{unknown};
 ghost use Rattle.cbpf_tool.specs.Requests.{HasSortedPackets};
 ghost use Rattle.cbpf_tool.specs.RunJob.{request_status};
+ghost use Rattle.cbpf.specs.declared.Source.TheVariants as source;
 
 use cbpf_tool::{
     CreateFault, DiskFiles, Failure, Host, LineFault, Remarks, Request, ToolFault, WhyFailure,
@@ -25,6 +26,8 @@ enum Source<F, I> {
 }
 
 impl<F: Read, I: Read> Read for Source<F, I> {
+    ghost remaining = { λ s. elim s [ | source.File file ↦ F.remaining file | source.Input input ↦ I.remaining input ] };
+
     fn read(&mut self, buf: &mut [u8]) -> io::Result<usize> {
         match self {
             Source::File(file) => file.read(buf),

@@ -48,8 +48,8 @@ pub struct Decided {
 ///
 /// The meter is at least twice `MAX_INSTRUCTIONS` turns below 2 to the 128 before.
 ///
-/// `COPY` is any number from 3 on, and changes nothing but speed: the compiler inlines the loop over the instructions where
-/// one place alone calls it by this number.
+/// `COPY` changes nothing but speed. The compiler inlines the loop over the instructions where one place alone calls it by
+/// this number, and this crate takes those below 4 itself.
 #[inline(always)]
 pub fn decided_end<A: Allocator, const COPY: u32>(
     meter: &mut Meter,
@@ -101,5 +101,5 @@ pub fn end_of_packet<A: Allocator>(meter: &mut Meter, task: &Task<'_, A>) -> Pac
     ensures turns { meter.new ≡ meter.old + length (entries_in task.now) }
     ensures few { meter.new ≤ meter.old + length task.now.program.now }
 {
-    decided_end::<A, 3>(meter, task).end
+    decided_end::<A, 4>(meter, task).end
 }

@@ -18,15 +18,37 @@ use std::process::Abort;
 /// The bytes of the room at first.
 const ROOM: usize = 131_072;
 
-/// Whether the reader reads this record next.
+/// Whether the record whose bytes were read already is this one; `None` where there is none.
+fn reads_buffered<R: Read, A: Allocator>(
+    reader: &mut CaptureReader<R, A>,
+    wanted: &Captured<'_>,
+) -> Option<bool> {
+    match reader.next_buffered() {
+        Some(record) => Some(record == *wanted),
+        None => None,
+    }
+}
+
+/// Whether the reader reads this record next. Each second one is taken by `next_buffered`, where that gives one.
 fn reads<R: Read, A: Allocator>(reader: &mut CaptureReader<R, A>, wanted: &Captured<'_>) -> bool {
-    let is_next = matches!(reader.next_record(), Ok(Some(record)) if record == *wanted);
+    let buffered = if wanted.number % 2 == 0 {
+        reads_buffered(reader, wanted)
+    } else {
+        None
+    };
+    let is_next = match buffered {
+        Some(is_next) => is_next,
+        None => matches!(reader.next_record(), Ok(Some(record)) if record == *wanted),
+    };
     is_next && reader.ending() == None
 }
 
 /// Whether it is at its end, which is this one.
 fn ends<R: Read, A: Allocator>(reader: &mut CaptureReader<R, A>, wanted: Ending) -> bool {
-    matches!(reader.next_record(), Ok(None)) && reader.ending() == Some(wanted)
+    reader.next_buffered().is_none()
+        && matches!(reader.next_record(), Ok(None))
+        && reader.next_buffered().is_none()
+        && reader.ending() == Some(wanted)
 }
 
 /// How many of these records it reads, one after the other.

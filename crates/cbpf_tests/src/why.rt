@@ -35,7 +35,8 @@ l1:\tjeq #0x806, l2, l3\tA 2048 (0x800) X 0 (0x0)\tto l3\n\
 l3:\tret #0\tA 2048 (0x800) X 0 (0x0)\n\
 fail at l1:\tjeq #0x806, l2, l3, false with A 2048 (0x800) X 0 (0x0), then l3:\tret #0\n";
 
-pub(crate) const ARP_LINES: &[u8] = b"1\tpass\tl2\t4294967295\tl1\ttrue\n2\tfail\tl3\t0\tl1\tfalse\n";
+pub(crate) const ARP_LINES: &[u8] =
+    b"1\tpass\tl2\t4294967295\tl1\ttrue\n2\tfail\tl3\t0\tl1\tfalse\n";
 
 const ARP_COVERAGE: &[u8] = b"2\tl0:\tldh [12]\n\
 2\tl1:\tjeq #0x806, l2, l3\ttrue 1 false 1\n\

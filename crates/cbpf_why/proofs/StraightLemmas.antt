@@ -1,7 +1,7 @@
 -- After a packet's last conditional jump the way to its return is straight, so two packets that went the same way there
 -- come to the same return.
-use Rattle.std.proofs.Common.{◌≡◌, ℕ, zero, suc, ◌+◌, ◌-◌, ◌<◌, ◌≤◌, List, [], ◌∷◌, length, arith, refl, sym, ap, ◌∙◌, inl, inr, ◌⊎◌, get_or}
-use Rattle.std.proofs.Common.{◌++◌, ◌*◌, ◌%◌, ◌^◌}
+use Rattle.std.proofs.Common.{◌≡◌, ℕ, zero, suc, ◌+◌, ◌-◌, ◌<◌, ◌≤◌, List, [], ◌∷◌, length, arith, refl, sym, ap, ◌∙◌, inl, inr, get_or}
+use Rattle.std.proofs.Common.{◌*◌, ◌%◌, ◌^◌}
 use Rattle.std.specs.Prelude.{Bool, true, false, Option, Some, None, filter, slice_get, if◌then◌else◌, is_some, option_map, unwrap_or}
 use Rattle.std.specs.Option.{option_map_or}
 use Rattle.cbpf_machine.specs.declared.follow.Choice.{Choice}

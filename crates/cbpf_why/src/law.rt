@@ -12,8 +12,8 @@ pub fn totals_of_outcomes()
 
 /// Each packet of a checked program is in exactly one group, and the counts of a verdict's groups sum to its total. All
 /// packets of a group ended at the same instruction for the same reason, by the same way of the same conditional jump
-/// where one decided. So the line of a group, which names its first packet, is true of each. Only what a `ret a` returned
-/// may differ.
+/// where one decided. So the line of a group, which names its first packet, is true of each. The law leaves out the value
+/// that was returned, which may differ by a `ret a`.
 pub fn laws_of_groups()
     ensures once { EachInOneGroup }
     ensures sums { GroupsSumToTotals }

@@ -43,7 +43,7 @@ fn write_line_of<P: Allocator, W: Write>(
     ensures { Wrote (W.contents w.old) (W.contents w.new) result
         (packet_line (decided (machine_in question.now) (record_of item.now))) }
 {
-    write_packet_line(w, end_of::<P, 3>(question, item))
+    write_packet_line(w, end_of::<P, 4>(question, item))
 }
 
 /// Counts a packet, or writes what is to be reported of it.
@@ -63,7 +63,7 @@ fn take_packet<P: Allocator, A: Allocator + Copy, W: Write>(
         Report::Ways => write_way(w, question.program, question.values, item),
         Report::Packets => write_line_of(question, w, item),
         Report::Summary => {
-            add_ended::<P, A, 3>(question, counted, item);
+            add_ended::<P, A, 4>(question, counted, item);
             Ok(())
         }
         Report::Coverage => {
@@ -154,7 +154,7 @@ fn count_buffered<P: Allocator, A: Allocator + Copy, R: Read, B: Allocator>(
         let Some(item) = reader.next_buffered() else {
             return count;
         };
-        add_ended::<P, A, 4>(question, counted, &item);
+        add_ended::<P, A, 5>(question, counted, &item);
         count += 1;
     }
     count

@@ -125,7 +125,7 @@ fn all_say_so<A: Allocator>(rt: &impl Test, p: &Program<A>, row: &Row) -> bool {
     let packet = Packet { bytes, wire: 60 };
     let values = Values::new();
     let task = task(p, packet, &values);
-    let decided = decided_end::<A, 3>(&mut Meter::new(), &task);
+    let decided = decided_end::<A, 4>(&mut Meter::new(), &task);
     let end = end_of_packet(&mut Meter::new(), &task);
     let mut tally = Tally::new(rt.alloc(), p).expect(rt, "the tally");
     let counted = tally.count_packet(&mut Meter::new(), &task);

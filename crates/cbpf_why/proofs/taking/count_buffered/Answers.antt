@@ -1,4 +1,4 @@
-use Rattle.std.proofs.Common.{◌≤◌, ◌+◌, ◌++◌, arith, None}
+use Rattle.std.proofs.Common.{◌≤◌, ◌++◌, arith, None}
 use Rattle.cbpf_code.proofs.WrittenLemmas.{appended-nil}
 use Rattle.cbpf_why.proofs.InRangeLemmas.{range-goes, range-starts}
 use Rattle.cbpf_why.proofs.ReadLemmas.{stepped_on}
