@@ -1,13 +1,14 @@
 #!/usr/bin/env python3
 """Checks that CHANGES.md names what a release changes in the libraries, and that the version fits it.
 
-usage: changes.py [--release]
+usage: changes.py
 
-tests/last_release.txt has a line for each public item of the libraries at the last release: the crate, the name, and a
-checksum of the signature and the clauses, without comments. With --release it is written anew, as a release does.
-  an item      that differs from the last release, is new or is gone stands by its name, between backquotes, in a part of
-               CHANGES.md above the last release that names its crate; `Type::name` also as `name` beside `Type`. For a
-               type that is new or gone its own name is enough. For such a crate a part begins with its name
+The commit of the last release is the one whose message is `Release VERSION`. Where this history lacks it, as in an
+archive of the sources, nothing is looked up but the version.
+  an item      whose signature or clauses differ from the last release, or that is new or gone, stands by its name,
+               between backquotes, in a part of CHANGES.md above the last release that names its crate; `Type::name` also
+               as `name` beside `Type`. For a type that is new or gone its own name is enough. For such a crate a part
+               begins with its name
   the version  is that of the newest release of CHANGES.md, and nothing stands below `## Next`; or it is X.Y.Z-dev, where
                X.Y.Z wasn't released yet
   its first number  was raised where an item is gone
@@ -17,16 +18,16 @@ only the definitions of specs/ say is no part of an item.
 The last line is `N items, M failed`.
 """
 
-import hashlib
 import re
+import subprocess
 import sys
 from functools import cache
 from itertools import takewhile
 from pathlib import Path
+from tempfile import TemporaryDirectory
 
 TOP = Path(__file__).resolve().parent.parent
 CRATES = TOP / "crates"
-RELEASED = TOP / "tests" / "last_release.txt"
 PARSE = CRATES / "cbpf_command_line" / "src" / "parse.rt"
 EXPORT = re.compile(r"^pub use ([^;]+);", re.M)
 DEFINED = re.compile(r" *pub (?:const |unsafe )*(fn|struct|enum|trait|const|type) (\w+)")
@@ -34,24 +35,23 @@ BLOCK = re.compile(r"(?:unsafe )?impl\b(?:<[^{]*?>)? (?:(.+) for )?(?:&(?:'\w+ )
 CODE_SPAN = re.compile(r"`([^`]+)`")
 
 
-def libraries():
+def libraries(crates):
     """The crates that other programs may call."""
-    return [path.parent.parent for path in sorted(CRATES.glob("*/src/lib.rt")) if not path.parts[-3].endswith("_tests")]
+    return [path.parent.parent for path in sorted(crates.glob("*/src/lib.rt")) if not path.parts[-3].endswith("_tests")]
 
 
 @cache
-def constants():
+def constants(crates):
     """The values of constants. A clause says the same by either."""
-    sources = "".join(path.read_text() for path in CRATES.glob("*/src/*.rt"))
+    sources = "".join(path.read_text() for path in crates.glob("*/src/*.rt"))
     found = re.findall(r"\bconst ([A-Z]\w+): \w+ = (0x[\da-f]+|\d+);", sources)
     return {name: str(int(value, 0)) for name, value in found}
 
 
-def checksum(lines):
-    """A checksum of a text, in which blanks and commas at an end don't count."""
+def compared(lines, crates):
+    """A text by which items are compared: blanks and commas at an end don't count, and a constant is its value."""
     text = re.sub(r",(?= ?[)}\]>])", "", " ".join(" ".join(lines).split()))
-    text = re.sub(r"\b(?<!const )[A-Z]\w+", lambda name: constants().get(name[0], name[0]), text)
-    return hashlib.sha256(text.encode()).hexdigest()[:8]
+    return re.sub(r"\b(?<!const )[A-Z]\w+", lambda name: constants(crates).get(name[0], name[0]), text)
 
 
 def exported(text):
@@ -149,10 +149,10 @@ def plain_lines(source):
     return [line for line in source.splitlines() if line.strip()]
 
 
-def items():
-    """The checksums of all public items, by crate and name."""
+def items(crates):
+    """The texts of all public items, by crate and name."""
     found = {}
-    for crate in libraries():
+    for crate in libraries(crates):
         source = crate / "src"
         names = exported((source / "lib.rt").read_text())
         others = {name for name, path in names.items() if not (source / f"{path.split('::')[0]}.rt").exists()}
@@ -162,20 +162,22 @@ def items():
                 texts.setdefault(name, []).extend(text)
         for name in names.keys() - texts.keys():
             sys.exit(f"{crate.name}: no item {name}")
-        found |= {(crate.name, name): checksum(text) for name, text in texts.items()}
+        found |= {(crate.name, name): compared(text, crates) for name, text in texts.items()}
     return found
 
 
-def released():
-    """The checksums at the last release, and its version."""
-    head, *lines = RELEASED.read_text().splitlines()
-    rows = [line.split(" ", 1) for line in lines]
-    return {(crate, rest.rsplit(" ", 1)[0]): rest.rsplit(" ", 1)[1] for crate, rest in rows}, head.split()[-1]
+def git(*words):
+    return subprocess.run(["git", "-C", TOP, *words], capture_output=True).stdout
 
 
-def release(version):
-    lines = [f"{crate} {name} {text}" for (crate, name), text in sorted(items().items())]
-    RELEASED.write_text("\n".join([f"# The public items of {version}", *lines]) + "\n")
+def released(version):
+    """The items of a release, or None where the history lacks its commit."""
+    commit = git("log", "-1", "--format=%H", f"--grep=^Release {re.escape(version)}$").decode().strip()
+    if not commit:
+        return None
+    with TemporaryDirectory() as folder:
+        subprocess.run(["tar", "-x", "-C", folder], input=git("archive", commit, "crates"), check=True)
+        return items(Path(folder) / "crates")
 
 
 def next_items(changes):
@@ -220,32 +222,28 @@ def version_faults(version, versions, told):
         yield f"the version is {version}, and {number} was released"
 
 
-def faults():
-    changes = (TOP / "CHANGES.md").read_text()
-    version = re.search(r'^const VERSION: &str = "(.*)";$', PARSE.read_text(), re.M)[1]
-    versions = re.findall(r"^## ([0-9.]+), ", changes, re.M)
-    told = next_items(changes)
+def faults(then, now, version, versions):
+    told = next_items((TOP / "CHANGES.md").read_text())
     yield from version_faults(version, versions, told)
-    then, last = released()
-    if last != versions[0]:
-        yield f"tests/last_release.txt is of {last}, and the last release is {versions[0]}: tests/changes.py --release"
-        return
-    for (crate, name), how in differences(then, items()).items():
-        if how == "is gone" and version.split(".")[0] == last.split(".")[0]:
+    for (crate, name), how in differences(then, now).items():
+        if how == "is gone" and version.split(".")[0] == versions[0].split(".")[0]:
             yield f"{crate}: {name} is gone, so the first number of {version} is to be raised"
         if not is_named(crate, name, told):
             yield f"{crate}: {name or 'all of it'} {how}, and CHANGES.md doesn't name it"
 
 
 def main():
-    if sys.argv[1:] == ["--release"]:
-        release(re.search(r"^## ([0-9.]+), ", (TOP / "CHANGES.md").read_text(), re.M)[1])
-    elif sys.argv[1:]:
+    if sys.argv[1:]:
         sys.exit(__doc__)
-    else:
-        found = [*faults()]
-        print("\n".join([*found, f"{len(items())} items, {len(found)} failed"]))
-        sys.exit(1 if found else 0)
+    version = re.search(r'^const VERSION: &str = "(.*)";$', PARSE.read_text(), re.M)[1]
+    versions = re.findall(r"^## ([0-9.]+), ", (TOP / "CHANGES.md").read_text(), re.M)
+    now = items(CRATES)
+    then = released(versions[0])
+    if then is None:
+        print(f"not compared: this history has no commit `Release {versions[0]}`")
+    found = [*faults(now if then is None else then, now, version, versions)]
+    print("\n".join([*found, f"{len(now)} items, {len(found)} failed"]))
+    sys.exit(1 if found else 0)
 
 
 if __name__ == "__main__":

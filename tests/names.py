@@ -15,8 +15,6 @@ crates/*/CALLING.md. Each is read outside its blocks of code, and names what sta
                    a trait that the crate implements
   a definition     at the head of an item of docs/DEFINITIONS.md: it stands in a file that the item names
   a call           in a block ```calls of docs/ARCHITECTURE.md: the function stands in the line's file
-  a contract       in a block ```contracts of a CALLING.md, where a blank line parts them: it stands in the code of the
-                   crate, with all its clauses, but for comments
   a definition     in a `ghost use` line of a CALLING.md: it is there
   a line           in a block ```crates.txt of a CALLING.md: it stands in crates.txt
 What is there stands in the documents:
@@ -323,25 +321,10 @@ def described(path):
                     yield number, (file.parent.parent.name, file.stem, item), name in private
 
 
-@cache
-def code_in_a_line(crate):
-    return " ".join(re.sub(r"//.*", "", "\n".join(joined_sources(crate))).split())
-
-
 def blocks(path):
     """The blocks of code of a document: line, kind, text."""
     for block in re.finditer(r"^```(\S+)\n(.*?)^```", text_of(path), re.M | re.S):
         yield text_of(path)[: block.start()].count("\n") + 1, block[1], block[2]
-
-
-def check_contracts(path):
-    """Whether the contracts that a page for callers quotes stand in the code, each whole."""
-    own = code_in_a_line(path.parent.name)
-    for number, kind, text in blocks(path):
-        for contract in text.split("\n\n") if kind == "contracts" else ():
-            # After the last clause comes the body, or the end of a member of a trait.
-            whole = " ".join(contract.split()) + ("" if contract.rstrip().endswith(";") else " {")
-            check(whole in own, path, number, f"no contract {contract.split('(')[0].strip()}")
 
 
 def check_listed(path):
@@ -500,7 +483,7 @@ OF_ONE = {
     "PROMISES.md": [check_promises, check_called],
     "DEFINITIONS.md": [check_definitions, check_reached],
     "ARCHITECTURE.md": [check_crates],
-    "CALLING.md": [check_contracts, check_listed, check_imports],
+    "CALLING.md": [check_listed, check_imports],
 }
 
 
