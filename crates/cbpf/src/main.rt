@@ -26,7 +26,7 @@ enum Source<F, I> {
 }
 
 impl<F: Read, I: Read> Read for Source<F, I> {
-    ghost remaining = { λ s. elim s [ | source.File file ↦ F.remaining file | source.Input input ↦ I.remaining input ] };
+    ghost remaining = { λ s. elim s [ source.File file ↦ F.remaining file | source.Input input ↦ I.remaining input ] };
 
     fn read(&mut self, buf: &mut [u8]) -> io::Result<usize> {
         match self {

@@ -51,10 +51,7 @@ pub struct Decided {
 /// `COPY` changes nothing but speed. The compiler inlines the loop over the instructions where one place alone calls it by
 /// this number, and this crate takes those below 4 itself.
 #[inline(always)]
-pub fn decided_end<A: Allocator, const COPY: u32>(
-    meter: &mut Meter,
-    task: &Task<'_, A>,
-) -> Decided
+pub fn decided_end<A: Allocator, const COPY: u32>(meter: &mut Meter, task: &Task<'_, A>) -> Decided
     requires { meter.old + 2 * MAX_INSTRUCTIONS ≤ 2 ^ 128 }
     ensures last { result.end.last ≡ last_or zero_state (entries_in task.now) }
     ensures reason { turn_from task.now result.end.last ≡ turn_of result.end.reason }
