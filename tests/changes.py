@@ -13,8 +13,8 @@ archive of the sources, nothing is looked up but the version.
                X.Y.Z wasn't released yet
   its first number  was raised where an item is gone
 Items are what src/lib.rt exports: functions, types with their public fields and derives, constants, traits, the public
-functions of types, and which traits a type implements, with their ghost members and the functions that have clauses. A constant counts as its value. What
-only the definitions of specs/ say is no part of an item.
+functions of types, and which traits a type implements, with their ghost members and the functions that have clauses. A
+constant counts as its value. What only the definitions of specs/ say is no part of an item.
 The last line is `N items, M failed`.
 """
 
@@ -22,22 +22,13 @@ import re
 import subprocess
 import sys
 from functools import cache
-from itertools import takewhile
 from pathlib import Path
 from tempfile import TemporaryDirectory
 
-TOP = Path(__file__).resolve().parent.parent
-CRATES = TOP / "crates"
+from items import CRATES, TOP, exported, items, libraries
+
 PARSE = CRATES / "cbpf_command_line" / "src" / "parse.rt"
-EXPORT = re.compile(r"^pub use ([^;]+);", re.M)
-DEFINED = re.compile(r" *pub (?:const |unsafe )*(fn|struct|enum|trait|const|type) (\w+)")
-BLOCK = re.compile(r"(?:unsafe )?impl\b(?:<[^{]*?>)? (?:(.+) for )?(?:&(?:'\w+ )?)?(\w+)")
 CODE_SPAN = re.compile(r"`([^`]+)`")
-
-
-def libraries(crates):
-    """The crates that other programs may call."""
-    return [path.parent.parent for path in sorted(crates.glob("*/src/lib.rt")) if not path.parts[-3].endswith("_tests")]
 
 
 @cache
@@ -54,116 +45,19 @@ def compared(lines, crates):
     return re.sub(r"\b(?<!const )[A-Z]\w+", lambda name: constants(crates).get(name[0], name[0]), text)
 
 
-def exported(text):
-    """The names that a crate exports, each with the path after `pub use`."""
-    found = {}
-    for path in EXPORT.findall(text):
-        head, _, inner = path.partition("{")
-        for name in inner.rstrip("}").split(",") if inner else [head]:
-            whole = (head if inner else "") + name.strip()
-            if name.strip():
-                found[re.split(r" as |::", whole)[-1]] = whole
-    return found
-
-
-def signature(lines):
-    """A function with its clauses, from its first line to its body or its end."""
-    indent = re.match(" *", lines[0])[0]
-    taken = []
-    for line in lines:
-        if line.startswith(indent + "{"):
-            break
-        taken.append(line)
-        clauses = any(re.match(r" *(requires|ensures|ghost)\b", one) for one in taken)
-        if line.endswith(";") and line.startswith(indent) or line.endswith("{") and not clauses:
-            break
-    return taken
-
-
-def block(lines):
-    """From a first line to the end of its braces."""
-    indent = re.match(" *", lines[0])[0]
-    if lines[0].endswith((";", "}")):
-        return lines[:1]
-    return [*takewhile(lambda line: not re.match(indent + r"[})]", line), lines)]
-
-
-def ghosts(lines):
-    """The ghost members and types of a block: not what they import, nor what a type is made of."""
-    taken, inside = [], False
-    for line in lines:
-        inside = inside or re.match(r"    (?:ghost (?!use|view|invariant)|type )", line) is not None
-        taken += [line] if inside else []
-        inside = inside and not line.endswith(";")
-    return taken
-
-
-def type_text(kind, lines):
-    """A type without its private fields."""
-    whole = block(lines)
-    if kind != "struct":
-        return whole
-    return [line for line in whole if not line.startswith(" ") or line.lstrip().startswith("pub ")]
-
-
-def members(text):
-    """The members of a block, each with the lines that begin there."""
-    for i, line in enumerate(text):
-        if match := re.match(r"    (pub )?(?:const |unsafe )*fn (\w+)", line):
-            yield match[2], bool(match[1]), signature(text[i:])
-
-
-def items_of(lines, public):
-    """The public items of a file: each name, with its text."""
-    for i, line in enumerate(lines):
-        if match := BLOCK.match(line):
-            head, whole = line, block(lines[i:])
-            if match[2] in public and match[1]:
-                texts = [text for _, _, text in members(whole)]
-                said = [text for text in texts if re.search(r"(?m)^ *(requires|ensures)\b", "\n".join(text))]
-                yield f"{match[2]}: {re.sub('<.*', '', match[1])}", [head, *ghosts(whole), *sum(said, [])]
-            elif match[2] in public:
-                for name, is_public, text in members(whole):
-                    if is_public:
-                        yield f"{match[2]}::{name}", text
-        elif (match := DEFINED.match(line)) and match[2] in public:
-            kind, name = match[1], match[2]
-            above = [*takewhile(lambda one: one.startswith("#["), reversed(lines[:i]))]
-            derived = [one for one in above if "derive" in one]
-            if kind == "fn":
-                yield name, signature(lines[i:])
-            elif kind == "trait":
-                whole = block(lines[i:])
-                yield name, [line, *ghosts(whole)]
-                for inner, _, text in members(whole):
-                    yield f"{name}::{inner}", text
-            else:
-                yield name, derived + type_text(kind, lines[i:])
-
-
-def plain_lines(source):
-    """The lines of a file, without comments and without the short names of modules of definitions."""
-    source = re.sub(r" *//.*", "", source)
-    for short in re.findall(r"^ *ghost use .* as (\w+);", source, re.M):
-        source = re.sub(rf"\b{short}\.", "", source)
-    return [line for line in source.splitlines() if line.strip()]
-
-
-def items(crates):
-    """The texts of all public items, by crate and name."""
+def all_items(crates):
+    """The texts of all public items, by crate and name, without the short names of files of definitions."""
     found = {}
     for crate in libraries(crates):
-        source = crate / "src"
-        names = exported((source / "lib.rt").read_text())
-        others = {name for name, path in names.items() if not (source / f"{path.split('::')[0]}.rt").exists()}
-        texts = {name: [names[name]] for name in others}
-        for path in sorted(source.rglob("*.rt")):
-            for name, text in items_of(plain_lines(path.read_text()), names.keys() - others):
-                texts.setdefault(name, []).extend(text)
-        for name in names.keys() - texts.keys():
-            sys.exit(f"{crate.name}: no item {name}")
-        found |= {(crate.name, name): compared(text, crates) for name, text in texts.items()}
-    return found
+        for item in items(crate):
+            shorts = re.findall(r"^ *ghost use .* as (\w+);", item.path.read_text(), re.M)
+            lines = [re.sub(rf"\b(?:{'|'.join(shorts)})\.", "", line) if shorts else line for line in item.text]
+            found.setdefault((item.crate, item.name), []).extend(lines)
+        # What another crate defines is exported by its path alone.
+        for name, path in exported((crate / "src/lib.rt").read_text()).items():
+            if not (crate / "src" / f"{path.split('::')[0]}.rt").exists():
+                found[crate.name, name] = [path]
+    return {one: compared(lines, crates) for one, lines in found.items()}
 
 
 def git(*words):
@@ -177,7 +71,7 @@ def released(version):
         return None
     with TemporaryDirectory() as folder:
         subprocess.run(["tar", "-x", "-C", folder], input=git("archive", commit, "crates"), check=True)
-        return items(Path(folder) / "crates")
+        return all_items(Path(folder) / "crates")
 
 
 def next_items(changes):
@@ -237,7 +131,7 @@ def main():
         sys.exit(__doc__)
     version = re.search(r'^const VERSION: &str = "(.*)";$', PARSE.read_text(), re.M)[1]
     versions = re.findall(r"^## ([0-9.]+), ", (TOP / "CHANGES.md").read_text(), re.M)
-    now = items(CRATES)
+    now = all_items(CRATES)
     then = released(versions[0])
     if then is None:
         print(f"not compared: this history has no commit `Release {versions[0]}`")

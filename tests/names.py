@@ -11,19 +11,13 @@ crates/*/CALLING.md. Each is read outside its blocks of code, and names what sta
                    one that the line names
   another name     it stands in the code, the definitions, the proofs or the scripts, or it is a file's or a folder's
   cbpf_..          also without backquotes: a crate, or a name of the code
-  a clause         in the column `clause` of docs/PROMISES.md: an `ensures` of the functions of its row, or a member of
-                   a trait that the crate implements
   a definition     at the head of an item of docs/DEFINITIONS.md: it stands in a file that the item names
   a call           in a block ```calls of docs/ARCHITECTURE.md: the function stands in the line's file
   a definition     in a `ghost use` line of a CALLING.md: it is there
   a line           in a block ```crates.txt of a CALLING.md: it stands in crates.txt
-What is there stands in the documents:
-  a crate          docs/ARCHITECTURE.md has a heading of its own for it
-  a public call    of a library: it has a row in docs/PROMISES.md in the crate's section, by its type and its name, or
-                   by its name alone where only one call of the crate has it
-  a definition     that the clauses of public functions, traits and models reach: an item of docs/DEFINITIONS.md has it
-  another one      of a file specs/: such an item says that only private functions cite it, or the comment at the head
-                   of its file says that no public clause names it; and something cites it
+What is there is explained where it stands, or in the documents:
+  a public item    of a library, and a definition that the clauses of one reach: a comment stands right above it
+  a definition     of a file specs/: something cites it
   a command, an option, an error
                    of the program: a case has it, and so have docs/REFERENCE.md and man/cbpf.1
   a short form     of cbpf-shell: tests/shell.py, docs/REFERENCE.md and man/cbpf-shell.1 have it
@@ -39,24 +33,20 @@ import re
 import sys
 from functools import cache
 
+from items import CRATES, TOP, items, libraries
 from run import CASES, parts
 from sources import (
-    CRATES,
-    FOR_PRIVATE,
     FUNCTION,
     IMPORT,
-    TOP,
+    SPEC_HEAD,
     all_paths,
     cited_anywhere,
     command_words,
     crates,
     error_texts,
-    functions,
     joined_sources,
     line_words,
-    members,
     own_files,
-    public_calls,
     reached,
     short_forms,
     spec_files,
@@ -74,8 +64,6 @@ STANDARD = set("grow shrink cmp partial_cmp madvise Display".split())
 OF_USERS = {"REFERENCE.md", "KERNEL_TOOLS.md", "PACKAGING.md"}
 CODE_SPAN = re.compile(r"(?<!`)`([^`]+)`(?!`)")
 NAME = re.compile(r"[A-Za-z_][\w]*(?:(?:::|\.)[A-Za-z_]\w*)*(?:\(.*\))?")
-# The words by which an item of docs/DEFINITIONS.md says that no public clause names its definitions.
-ONLY_PRIVATE = re.compile(r"[Oo]nly private functions cite ((?:these\b|them\b|it\b|`\w+`|[ ,]|and\b)+)")
 
 faults = []
 names = 0
@@ -145,20 +133,6 @@ def lines_of(path):
             yield number, line
 
 
-def tables(path):
-    """The rows of a document's tables: line, the heading above, the head of the table, the cells."""
-    heading, head = "", None
-    for number, line in lines_of(path):
-        cells = [cell.strip() for cell in re.split(r"(?<!\\)\|", line.strip().strip("|"))]
-        if not line.startswith("|"):
-            heading = line if line.startswith("#") else heading
-            head = None
-        elif head is None:
-            head = cells
-        elif not set("".join(cells)) <= set("-: "):
-            yield number, heading, head, cells
-
-
 def crates_in(text):
     return [word for word in re.findall(r"\w+", text) if word in crates()]
 
@@ -182,69 +156,6 @@ def check_spans(path):
                 check(is_known(name), path, number, f"no name {span}")
         for name in re.findall(r"(?<![\w/.])cbpf_\w+", CODE_SPAN.sub("", line)):
             check(name in crates() or name in words(), path, number, f"no crate {name}")
-
-
-def all_clauses(crate):
-    return set().union(*functions(crate).values())
-
-
-def check_promises(path):
-    called = []
-    for number, heading, head, cells in tables(path):
-        columns = [i for i, name in enumerate(head) if re.fullmatch("clauses?", name)]
-        own = crates_in(heading)
-        if not columns or not own:
-            continue
-        if cells[0]:
-            calls = CODE_SPAN.findall(cells[0])
-            called = [re.sub(r"\(.*", "", call).split("::")[-1] for call in calls]
-            for call in calls:
-                for part in re.findall(r"\w+", re.sub(r"\(.*", "", call)):
-                    check(is_known(part), path, number, f"no call {call}")
-        text = cells[columns[0]]
-        inner = re.findall(r"`(\w+)`:", text)
-        where = inner or called
-        clauses = [functions(crate)[f] for crate in own for f in where if f in functions(crate)]
-        known = set().union(*clauses, *map(members, own))
-        if not clauses:
-            # The row is of a type, and the cell names its functions or their clauses.
-            known |= set().union(*map(functions, own), *map(all_clauses, own))
-        for name in CODE_SPAN.findall(text):
-            if re.fullmatch(r"[a-z]\w*", name) and name not in inner:
-                check(name in known, path, number, f"no clause {name} of {', '.join(where)} in {', '.join(own)}")
-        for name in inner:
-            check(any(name in functions(crate) for crate in own), path, number, f"no function {name}")
-
-
-def promised(path):
-    """The calls that have a row in docs/PROMISES.md: crate, type or trait (None where the row says none), name."""
-    called = []
-    for _, heading, head, cells in tables(path):
-        if head[0] not in ("call", "law"):
-            continue
-        if cells[0]:
-            called = [re.sub(r"\(.*", "", span).split("::") for span in CODE_SPAN.findall(cells[0])]
-        for crate in crates_in(heading):
-            for *owner, name in called:
-                # A row of a type has the names of its calls in the next cell.
-                inner = CODE_SPAN.findall(cells[1]) if name[0].isupper() else []
-                yield from ((crate, name, each) for each in inner)
-                yield crate, owner[-1] if owner else None, name
-
-
-def check_called(path):
-    """Whether each call that a library's callers see has a row, or is named in bold items about all libraries."""
-    rows = set(promised(path))
-    of_all = re.findall(r"^- \*\*.*", text_of(path).partition("\n## cbpf")[0], re.M)
-    for crate in sorted(crates()):
-        calls = public_calls(crate)
-        names_of = [name for _, name in calls]
-        for owner, name in sorted(calls, key=str):
-            # Without its type a name stands for the one call that has it. `fmt` is what a clause `output` speaks of.
-            known = {(crate, owner, "output" if name == "fmt" else name)}
-            known |= {(crate, None, name)} if names_of.count(name) == 1 else set()
-            there = bool(rows & known) or name in CODE_SPAN.findall(" ".join(of_all))
-            check(there, path, 1, f"no row for {owner + '::' if owner else ''}{name} of {crate}")
 
 
 def explained(path):
@@ -300,26 +211,6 @@ def check_calls(path):
             for name in filter(None, called):
                 check(name in known, path, number, f"no function {name} in {file}")
 
-def marked_private(text, names):
-    """Of the names of an item, those which it says that only private functions cite."""
-    if FOR_PRIVATE.search(text):
-        return set(names)
-    found = set()
-    for said in ONLY_PRIVATE.findall(text):
-        found |= set(CODE_SPAN.findall(said)) or set(names)
-    return found
-
-
-def described(path):
-    """The definitions that docs/DEFINITIONS.md explains: line, name, file, and whether only for private functions."""
-    for number, named, files, text in explained(path):
-        private = marked_private(text, named)
-        for name in [*named, *(private - set(named))]:
-            for file in files:
-                if name in spec_items(file)[1]:
-                    item = spec_items(file)[1][name]
-                    yield number, (file.parent.parent.name, file.stem, item), name in private
-
 
 def blocks(path):
     """The blocks of code of a document: line, kind, text."""
@@ -354,6 +245,25 @@ def check_imports(path):
                     check(name in known, path, number, f"no definition {name} in {crate}/{module}")
 
 
+def check_comments():
+    """Whether a comment stands right above each public item, and above each definition that its clauses reach."""
+    for item in (item for crate in libraries() for item in items(crate)):
+        # What a type says as one of a trait is explained by the trait.
+        check(item.comment or ": " in item.name, item.path, 1, f"no comment above {item.name}")
+    for (crate, module), path in spec_files().items():
+        lines = text_of(path).splitlines()
+        for number, line in enumerate(lines):
+            if (match := SPEC_HEAD.match(line)) and (crate, module, match[1] or match[2]) in reached():
+                check(lines[number - 1].startswith("--"), path, number + 1, f"no comment above {match[1] or match[2]}")
+
+
+def check_cited():
+    """Whether something cites each definition."""
+    for (crate, module), path in spec_files().items():
+        for item in spec_items(path)[0]:
+            check((crate, module, item) in cited_anywhere(), path, 1, f"nothing cites {item}")
+
+
 def check_own_files():
     for crate, module in own_files():
         named = sorted(item for c, m, item in reached() if (c, m) == (crate, module))
@@ -364,32 +274,6 @@ def check_heads():
     """Whether each file of code or definitions opens with a comment."""
     for path in sorted([*CRATES.glob("*/src/*.rt"), *CRATES.glob("*/specs/*.antt")]):
         check(path.stem == "Lib" or text_of(path).startswith(("//", "--")), path, 1, "no comment says what it is about")
-
-
-def check_crates(path):
-    """Whether each crate has a heading of its own."""
-    headings = [line for _, line in lines_of(path) if line.startswith("###")]
-    for crate in sorted(crates()):
-        check(any(crates_in(line) == [crate] for line in headings), path, 1, f"no heading for {crate}")
-
-
-def check_reached(path):
-    named, marked = set(), set()
-    for number, one, private in described(path):
-        name = f"{one[2]} of {one[0]}/specs/{one[1]}.antt"
-        named.add(one)
-        marked |= {one} if private else set()
-        if private:
-            check(one not in reached(), path, number, f"a public clause reaches {name}")
-        else:
-            check(one in reached(), path, number, f"no public clause reaches {name}, and the page doesn't say so")
-    for (crate, module), file in spec_files().items():
-        for item in spec_items(file)[0]:
-            one = (crate, module, item)
-            check(one not in reached() or one in named, path, 1, f"no item for {item} of {crate}/specs/{module}.antt")
-            check(one in cited_anywhere(), file, 1, f"nothing cites {item}")
-            known = one in reached() or one in marked or (crate, module) in own_files()
-            check(known, file, 1, f"no public clause reaches {item}, and no document says so")
 
 
 def check_equality(library):
@@ -480,9 +364,7 @@ def check_extensions():
 
 # The checks of a document by its name.
 OF_ONE = {
-    "PROMISES.md": [check_promises, check_called],
-    "DEFINITIONS.md": [check_definitions, check_reached],
-    "ARCHITECTURE.md": [check_crates],
+    "DEFINITIONS.md": [check_definitions],
     "CALLING.md": [check_listed, check_imports],
 }
 
@@ -503,6 +385,8 @@ def main():
     for library in sorted(CRATES.glob("*/src/lib.rt")):
         check_equality(library)
     check_heads()
+    check_comments()
+    check_cited()
     check_own_files()
     for fault in faults:
         print(fault)

@@ -5,8 +5,8 @@ import re
 from functools import cache
 from pathlib import Path
 
-TOP = Path(__file__).resolve().parent.parent
-CRATES = TOP / "crates"
+from items import CRATES, TOP, items, libraries
+
 FUNCTION = re.compile(r"\bfn (\w+)")
 
 
@@ -33,27 +33,6 @@ def crates():
 @cache
 def joined_sources(crate):
     return [text_of(path) for path in sorted((CRATES / crate / "src").rglob("*.rt"))]
-
-
-@cache
-def functions(crate):
-    """The functions of a crate, each with the names of its clauses (of all functions of this name)."""
-    clauses = {}
-    for text in joined_sources(crate):
-        name = None
-        for line in text.splitlines():
-            if match := FUNCTION.search(line):
-                name = match[1]
-                clauses.setdefault(name, set())
-            if name and (match := re.match(r"\s*(?:ensures|requires)\s+(\w+)\s*\{", line)):
-                clauses[name].add(match[1])
-    return clauses
-
-
-@cache
-def members(crate):
-    """The ghost members and laws of a crate's traits and impl blocks, and the derives' own clauses."""
-    return set(re.findall(r"\bghost (?:law )?(\w+)", "".join(joined_sources(crate)))) | {"ensures"}
 
 
 # A word of the definitions, and the head of one.
@@ -137,30 +116,13 @@ def all_reached(start):
     return reached
 
 
-def public_clauses(path):
-    """The clauses of public functions, and of all that stands in public traits and impl blocks of traits."""
-    public, within, found, inside = False, False, [], None
-    for line in re.sub(r"//.*", "", text_of(path)).splitlines():
-        if re.match(r"(?:pub )?trait |(?:unsafe )?impl\b|[})]", line):
-            within = re.match(r"pub trait |(?:unsafe )?impl\b.* for (?!.*\{\}$)", line) is not None
-        if match := re.match(r"\s*(pub )?(?:const )?fn |\s*(pub\(crate\) )fn ", line):
-            public = bool(match[1]) or (within and not match[2])
-            inside = None
-        if match := re.match(r"\s*(ensures|requires|ghost)\b(?! use)(?! invariant)", line):
-            inside = within if match[1] == "ghost" else public
-        elif re.match(r"\s*(?:\{|\}|ghost invariant)", line):
-            inside = None
-        if inside:
-            found.append(line)
-    return "\n".join(found)
-
-
 @cache
 def reached():
     """All definitions that the clauses of public functions, traits and models name, or that those rest on."""
     found = set()
-    for source in sorted(CRATES.glob("*/src/**/*.rt")):
-        found |= cited_in(public_clauses(source), source)
+    for crate in libraries():
+        for item in items(crate, "use|invariant"):
+            found |= cited_in("\n".join(item.text), item.path)
     return all_reached(found)
 
 
@@ -182,35 +144,6 @@ def own_files():
     """The files of definitions that say at their head that no public clause names them."""
     heads = {one: re.match(r"(?:--.*\n)*", text_of(path))[0] for one, path in spec_files().items()}
     return {one for one, head in heads.items() if FOR_PRIVATE.search(head.replace("\n-- ", " "))}
-
-
-@cache
-def exported(crate):
-    """The names that a library exports of its own; none for a program, which has no callers."""
-    library = CRATES / crate / "src/lib.rt"
-    lines = re.findall(r"^pub use ([^;]+);", text_of(library), re.M) if library.exists() else []
-    return set(re.findall(r"\w+", " ".join(lines)))
-
-
-@cache
-def public_calls(crate):
-    """The functions that a library's callers see, each as its type or trait, if it has one, and its name.
-
-    What implements a trait of the project is called by the trait's name.
-    """
-    found = set()
-    traits = set(re.findall(r"\bpub trait (\w+)", "".join(text for each in crates() for text in joined_sources(each))))
-    for text in joined_sources(crate):
-        owner, every = None, False
-        for line in text.splitlines():
-            if match := re.match(r"pub trait (\w+)|impl\b(?:<.*?>)? (?:(?:\w+::)*(\w+)(?:<.*>)? for )?(?:&(?:'\w+ )?)?(\w+)", line):
-                owner, every = match[1] or match[3], bool(match[1] or match[2]) and match[2] not in traits
-            if line.startswith("}") or re.match(r"\S.*\{\}$", line):
-                owner, every = None, False
-            elif match := re.match(r"\s*(pub )?(?:const )?fn (\w+)", line):
-                if (match[1] or every) and (owner or match[2]) in exported(crate):
-                    found.add((owner, match[2]))
-    return found
 
 
 def command_words():

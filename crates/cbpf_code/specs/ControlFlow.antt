@@ -37,11 +37,13 @@ abbrev pub IsSuccessor : List Insn → ℕ → ℕ → Type 0
 IsSuccessor list i t =
     (insn : Insn) × (slice_get list i ≡ Some insn) × IsAmong (successors (op_of insn.code) insn i) t
 
+-- whether an operation loads from scratch memory
 abbrev pub loads_slot : Op → Bool
 loads_slot LdMem = true
 loads_slot LdxMem = true
 loads_slot _ = false
 
+-- whether an operation stores to scratch memory
 abbrev pub stores_slot : Op → Bool
 stores_slot St = true
 stores_slot Stx = true

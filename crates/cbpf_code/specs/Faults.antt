@@ -26,16 +26,19 @@ uses_slot St = true
 uses_slot Stx = true
 uses_slot _ = false
 
+-- whether an operation divides by its constant
 abbrev pub divides_by_k : Op → Bool
 divides_by_k (Alu Div K) = true
 divides_by_k (Alu Mod K) = true
 divides_by_k _ = false
 
+-- whether an operation shifts by its constant
 abbrev pub shifts_by_k : Op → Bool
 shifts_by_k (Alu Lsh K) = true
 shifts_by_k (Alu Rsh K) = true
 shifts_by_k _ = false
 
+-- whether an operation loads from an offset that is its constant
 abbrev pub loads_absolute : Op → Bool
 loads_absolute (LdAbs size) = true
 loads_absolute _ = false
@@ -72,6 +75,7 @@ rank NoReturn = 3
 rank (UnwrittenSlot i) = 4
 rank _ = 2
 
+-- the index of the instruction that a fault is about; a fault of the whole list stands at 0
 abbrev pub index_of : CheckFault → ℕ
 index_of (UnknownCode i) = i
 index_of (NoSlot i) = i

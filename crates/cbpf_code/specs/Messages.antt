@@ -14,9 +14,11 @@ message_text (Text text) = text.now
 message_text (Number before n after) = with_number before.now n after.now
 message_text (Numbers before m between n after) = with_numbers before.now m between.now n after.now
 
+-- what the fault of a growth that is refused says
 abbrev pub out_of_memory : List ℕ
 out_of_memory = codes "out of memory"
 
+-- what the fault of a write says
 abbrev pub write_fault : List ℕ
 write_fault = codes "write fault"
 

@@ -21,6 +21,7 @@ with_number before n after = concat (before ∷ decimal n ∷ after ∷ [])
 abbrev pub with_numbers : List ℕ → ℕ → List ℕ → ℕ → List ℕ → List ℕ
 with_numbers before m between n after = concat (before ∷ decimal m ∷ between ∷ decimal n ∷ after ∷ [])
 
+-- so many blanks
 abbrev pub spaces : ℕ → List ℕ
 spaces n = repeat n (codes " ")
 

@@ -19,6 +19,7 @@ pub data Due : Type 0 where
   k : Due
   comma : Due
 
+-- what comes next in a word text
 abbrev pub next_due : Due → Due
 next_due count = count_comma
 next_due count_comma = code

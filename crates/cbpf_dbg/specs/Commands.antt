@@ -55,6 +55,7 @@ with_both (Some list) (Some c) act = act list c
 abbrev pub where_loaded : {R : Type 0} → View → (Machine → List Record → Result R SessionFault) → Result R SessionFault
 where_loaded m act = with_both m.program m.capture (λ list c. act (machine_of list m.values) c.records)
 
+-- the reply of a stop, and the session that stands there
 abbrev pub stopped : View → Stop → RunReply × View
 stopped m stop = (Stopped stop, record m { place = stop.place })
 
@@ -63,6 +64,7 @@ abbrev pub finished : View → Machine → List Record → RunReply × View
 finished m machine capture =
     (Finished (counts machine capture m.origin (length capture + 1)), record m { place = first_place; origin = 1 })
 
+-- the reply at a limit of packets, and the session before packet `next`
 abbrev pub limited : View → Machine → List Record → ℕ → RunReply × View
 limited m machine capture next =
     (Limit (counts machine capture m.origin next), record m { place = record { packet = next; step = 0 } })
@@ -112,6 +114,7 @@ entry_in machine (Some r) place =
     option_map (λ s. record { place = place; state = s; turn = turn machine r.bytes r.wire s })
     (entry_at (trace machine r.bytes r.wire) place.step)
 
+-- the place so many entries before another one of its packet
 abbrev pub back_place : Place → ℕ → Place
 back_place place b = record { packet = place.packet; step = place.step - b }
 
@@ -125,6 +128,7 @@ abbrev pub back_by : View → Machine → List Record → ℕ → Answer RunRepl
 back_by m machine capture b = back_at m (if nat_lt b m.place.step
     then entry_in machine (slice_get capture (m.place.packet - 1)) (back_place m.place b) else None)
 
+-- `step` over a capture that has packets
 abbrev pub step_in : View → Machine → List Record → ℤ → Answer RunReply
 step_in m machine capture (pos zero) = Err fault.ZeroCount
 step_in m machine capture (pos (suc n)) = Ok (step_to m machine capture (slice_get (entries_after machine capture m.place) n))
@@ -138,9 +142,11 @@ step m n =
 
 -- ---- the place
 
+-- the session at a place, from whose packet it counts
 abbrev pub moved : View → Place → Unit {0} × View
 moved m place = (tt, record m { place = place; origin = place.packet })
 
+-- whether a capture has a packet of this number
 abbrev pub has_packet : List Record → ℕ → Bool
 has_packet capture n = nat_lt 0 n && nat_le n (length capture)
 
@@ -159,6 +165,7 @@ abbrev pub steps_of : Machine → Option Record → ℕ
 steps_of machine None = 0
 steps_of machine (Some r) = length (trace machine r.bytes r.wire)
 
+-- `resume` of a place whose packet the capture has
 abbrev pub resume_in : View → Machine → List Record → Place → Answer (Unit {0})
 resume_in m machine capture place =
     let steps = steps_of machine (slice_get capture (place.packet - 1)) in
@@ -269,6 +276,7 @@ delete m n = at_instruction m.program n (Ok (
   record m { breakpoints = without_breakpoint m.breakpoints n },
 ))
 
+-- the session without breakpoints
 abbrev pub without_breakpoints : View → View
 without_breakpoints m = record m { breakpoints = [] }
 

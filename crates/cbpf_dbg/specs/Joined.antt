@@ -33,6 +33,7 @@ entries_from machine r packet step (s ∷ rest) =
     record { place = record { packet = packet; step = step }; state = s; turn = turn machine r.bytes r.wire s }
     ∷ entries_from machine r packet (step + 1) rest
 
+-- the entries of one packet
 abbrev pub packet_entries : Machine → Record → ℕ → List Entry
 packet_entries machine r packet = entries_from machine r packet 1 (trace machine r.bytes r.wire)
 

@@ -22,6 +22,7 @@ abbrev pub StopsRise : Type 0
 StopsRise = (machine : Machine) (capture : List Record) (breakpoints : Breakpoints)
     → Rises (λ h. h.place) (stops_in machine capture breakpoints)
 
+-- so do the stops after a place
 abbrev pub RestRises : Type 0
 RestRises = (machine : Machine) (capture : List Record) (breakpoints : Breakpoints) (place : Place)
     → Rises (λ h. h.place) (stops_after machine capture breakpoints place)

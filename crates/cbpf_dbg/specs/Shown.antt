@@ -27,6 +27,7 @@ pub record IsWithin (list : List Insn) (capture : List Record) (stop : Stop) : T
   pub packet : stop.place.packet ≤ length capture
   pub pc : stop.state.pc < length list
 
+-- a stop is one of a program and a capture that are loaded
 abbrev pub FitsWith : Option (List Insn) → Option Savefile → Stop → Type 0
 FitsWith (Some list) (Some c) stop = IsWithin list c.records stop
 FitsWith _ _ stop = ⊥

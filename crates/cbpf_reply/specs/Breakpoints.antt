@@ -14,6 +14,7 @@ condition_text Always = codes "\n"
 condition_text (A v) = with_number (codes " when a = ") v (codes "\n")
 condition_text (X v) = with_number (codes " when x = ") v (codes "\n")
 
+-- how the reply to a new breakpoint begins
 unfoldable pub set_head : List ℕ
 set_head = codes "breakpoint at: "
 
@@ -32,12 +33,15 @@ listed_text (n, Always) = concat (codes " " ∷ decimal n ∷ [])
 listed_text (n, A v) = concat (codes " " ∷ decimal n ∷ codes "(a=" ∷ decimal v ∷ codes ")" ∷ [])
 listed_text (n, X v) = concat (codes " " ∷ decimal n ∷ codes "(x=" ∷ decimal v ∷ codes ")" ∷ [])
 
+-- how the list of breakpoints ends
 abbrev pub list_end : List ℕ
 list_end = codes "\n"
 
+-- the list of breakpoints, after its first word
 abbrev pub list_text : List (ℕ × When) → List ℕ
 list_text breakpoints = flat_map listed_text breakpoints ++ list_end
 
+-- how the list of breakpoints begins
 unfoldable pub list_head : List ℕ
 list_head = codes "breakpoints:"
 

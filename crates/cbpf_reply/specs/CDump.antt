@@ -5,6 +5,7 @@ use Rattle.cbpf_code.specs.CForm.{c_form}
 use Rattle.cbpf_code.specs.declared.insn.Insn.{Insn}
 use Rattle.cbpf_reply.specs.Errors.{no_program_text}
 
+-- the first line of the C dump
 unfoldable pub c_head : List ℕ
 c_head = codes "/* { op, jt, jf, k }, */\n"
 

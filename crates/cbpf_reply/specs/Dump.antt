@@ -36,6 +36,7 @@ place_lines packet step pc line (Some i) =
     ∷ labelled (codes "code:") (codes "[" ∷ decimal i.code ∷ codes "] jt[" ∷ decimal i.jt ∷ codes "] jf[" ∷ decimal i.jf
     ∷ codes "] k[" ∷ decimal i.k ∷ codes "]\n" ∷ labelled (codes "curr:") (line ∷ codes "\n" ∷ []))))
 
+-- the lines of the place and of its instruction
 unfoldable pub instruction_dump : List Insn → ℕ → ℕ → ℕ → List ℕ
 instruction_dump list packet step pc = place_lines packet step pc (line_text list pc) (slice_get list pc)
 
@@ -43,11 +44,13 @@ instruction_dump list packet step pc = place_lines packet step pc (line_text lis
 unfoldable pub register_lines : ℕ → ℕ → List ℕ
 register_lines a x = concat (value_pieces (codes "A:") a ++ value_pieces (codes "X:") x)
 
+-- why it stopped
 abbrev pub why_text : Why → List ℕ
 why_text why_is.Break = codes "breakpoint"
 why_text why_is.Step = codes "step"
 why_text (why_is.Unknown e) = codes "extension " ++ ext_name e
 
+-- and as a line, between parentheses
 abbrev pub why_line : Why → List ℕ
 why_line why = concat (codes "(" ∷ why_text why ∷ codes ")\n" ∷ [])
 

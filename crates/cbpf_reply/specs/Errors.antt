@@ -17,18 +17,22 @@ use Rattle.cbpf_reply.specs.declared.reply.SessionFault.TheVariants.{TakesNoValu
 
 -- ---- what faults say
 
+-- what S1 says
 abbrev pub no_program : List ℕ
 no_program = codes "S1 no program"
 
+-- what the refusal of a line that is no command says
 abbrev pub command_message : CommandFault → List ℕ
 command_message command.UnknownCommand = codes "Q1 unknown command"
 command_message command.WrongArguments = codes "Q2 wrong arguments"
 
+-- what the refusal of a file says
 abbrev pub load_message : LoadFault → List ℕ
 load_message load.Absent = codes "F1 no such file"
 load_message load.Device = codes "F2 file could not be read"
 load_message load.Memory = out_of_memory
 
+-- what the refusal of a session's command says
 abbrev pub session_message : SessionFault → List ℕ
 session_message NoProgram = no_program
 session_message NoCapture = codes "S2 no capture"
@@ -47,26 +51,34 @@ session_message Memory = out_of_memory
 abbrev pub error_line : List ℕ → List ℕ
 error_line message = concat (codes "error: " ∷ message ∷ codes "\n" ∷ [])
 
+-- the line of a growth that was refused
 abbrev pub memory_text : List ℕ
 memory_text = error_line out_of_memory
 
+-- the line of S1
 abbrev pub no_program_text : List ℕ
 no_program_text = error_line no_program
 
+-- the line of a line that is no command
 abbrev pub command_fault_text : CommandFault → List ℕ
 command_fault_text fault = error_line (command_message fault)
 
+-- the line of a file that was not loaded
 abbrev pub load_fault_text : LoadFault → List ℕ
 load_fault_text fault = error_line (load_message fault)
 
+-- the line of a word text that is refused
 abbrev pub word_fault_text : WordFault → List ℕ
 word_fault_text fault = error_line (word_message fault)
 
+-- the line of a list that the checker refuses
 abbrev pub check_fault_text : CheckFault → List ℕ
 check_fault_text fault = error_line (check_message fault)
 
+-- the line of a capture that is refused
 abbrev pub capture_fault_text : CaptureFault → List ℕ
 capture_fault_text fault = error_line (capture_message fault)
 
+-- the line of a session's refusal
 abbrev pub session_fault_text : SessionFault → List ℕ
 session_fault_text fault = error_line (session_message fault)

@@ -14,6 +14,7 @@ slots_label first last =
     if first == last then with_number (codes "M[") first (codes "]:")
     else concat (codes "M[" ∷ decimal first ∷ codes "," ∷ decimal last ∷ codes "]:" ∷ [])
 
+-- the line of scratch slots that have one value
 abbrev pub scratch_line : ℕ → ℕ → ℕ → List ℕ
 scratch_line first last value = concat (value_pieces (slots_label first last) value)
 

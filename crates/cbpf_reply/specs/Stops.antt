@@ -15,6 +15,7 @@ stop_head s =
 abbrev pub stop_line : Stop → List ℕ
 stop_line s = stop_head s ++ why_line s.why
 
+-- the last line of the list of stops
 abbrev pub total_text : ℕ → List ℕ
 total_text n = with_number (codes "stops: ") n (codes "\n")
 

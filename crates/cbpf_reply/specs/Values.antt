@@ -4,5 +4,6 @@ use Rattle.cbpf_code.specs.Text.{concat}
 use Rattle.cbpf_code.specs.Extension.{ext_name}
 use Rattle.cbpf_code.specs.declared.extension.Ext.{Ext}
 
+-- the reply to a value that was set
 abbrev pub value_text : Ext → ℕ → List ℕ
 value_text e n = concat (codes "value " ∷ ext_name e ∷ codes " " ∷ decimal n ∷ codes "\n" ∷ [])

@@ -6,13 +6,16 @@ use Rattle.cbpf_syntax.specs.declared.token.BadPiece.{BadPiece}
 use Rattle.cbpf_syntax.specs.Pieces.{IsCut}
 use Rattle.cbpf_syntax.specs.Tokens.{Lexes, IsFirstBad}
 
+-- a text is cut in one way
 abbrev pub OneCut : Type 0
 OneCut = (text : List ℕ) (ps qs : List Piece) → IsCut text 0 ps (length text)
     → IsCut text 0 qs (length text) → ps ≡ qs
 
+-- a text has one list of tokens
 abbrev pub OneList : Type 0
 OneList = (text : List ℕ) (ts us : List Token) → Lexes text ts → Lexes text us → ts ≡ us
 
+-- a text has one first bad piece
 abbrev pub OneFault : Type 0
 OneFault = (text : List ℕ) (f g : BadPiece) (l m : ℕ) → IsFirstBad text f l → IsFirstBad text g m → (f ≡ g) × (l ≡ m)
 

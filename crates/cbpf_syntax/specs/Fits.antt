@@ -9,12 +9,15 @@ use Rattle.cbpf_syntax.specs.Classes.{Class}
 use Rattle.cbpf_syntax.specs.Classes.Class.{the_word, the_mark, literal, negated, exactly, extension, name}
 use Rattle.cbpf_syntax.specs.Table.{Mnemonic, mnemonics, operand_words}
 
+-- whether a word is one of some
 abbrev pub is_one_of : List (List ℕ) → List ℕ → Bool
 is_one_of words w = list_any (λ v. bytes_eq w v) words
 
+-- the names of extensions
 unfoldable pub extension_names : List (List ℕ)
 extension_names = map (λ e. ext_name e.1) ext_table
 
+-- the words of mnemonics
 abbrev pub mnemonic_words : List (List ℕ)
 mnemonic_words = map (λ (m : Mnemonic). m.word) mnemonics
 

@@ -5,9 +5,11 @@ use Rattle.cbpf_syntax.specs.Lexemes.{Lexeme}
 use Rattle.cbpf_syntax.specs.Items.{Item, Items}
 use Rattle.cbpf_syntax.specs.Refusals.{ParseFault, IsFirstRefusal, IsAccepted}
 
+-- tokens are the items of one list
 abbrev pub OneItemList : Type 0
 OneItemList = (ts : List Lexeme) (is js : List Item) → Items ts is → Items ts js → is ≡ js
 
+-- tokens have one first refusal, at one index
 abbrev pub OneFirstRefusal : Type 0
 OneFirstRefusal = (ts : List Lexeme) (f g : ParseFault) (p q : ℕ) → IsFirstRefusal ts f p → IsFirstRefusal ts g q
     → (f ≡ g) × (p ≡ q)

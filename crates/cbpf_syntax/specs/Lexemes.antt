@@ -7,6 +7,7 @@ use Rattle.cbpf_syntax.specs.declared.token.Kind.TheVariants as kinds
 use Rattle.cbpf_syntax.specs.declared.token.Token.{Token}
 use Rattle.cbpf_syntax.specs.Tokens.{LexesTo}
 
+-- a token by what it spells, without its place
 pub data Symbol : Type 0 where
   word : List ℕ → Symbol
   number : ℕ → Symbol
@@ -17,11 +18,13 @@ pub record Lexeme : Type 0 where
   pub symbol : Symbol
   pub at : ℕ
 
+-- the symbol of a token's bytes and kind
 abbrev pub token_symbol : List ℕ → Kind → Symbol
 token_symbol bytes kinds.Word = word bytes
 token_symbol bytes (kinds.Number n) = number n
 token_symbol bytes (kinds.Mark b) = mark b
 
+-- the token of a text, by what it spells
 abbrev pub token_lexeme : List ℕ → Token → Lexeme
 token_lexeme text token =
     record { symbol = token_symbol (slice_range text token.start token.end) token.kind; at = token.start }

@@ -30,6 +30,7 @@ abbrev pub only_if : Bool → PieceKind → Option PieceKind
 only_if true kind = Some kind
 only_if false kind = None
 
+-- digits that spell a number are a token below the limit, and else a bad piece
 abbrev pub number_kind : Option ℕ → PieceKind
 number_kind None = Bad NoToken
 number_kind (Some n) = if nat_lt n number_limit then TokenOf (Number n) else Bad LargeNumber
@@ -45,6 +46,7 @@ begins_with_close [] = false
 begins_with_close (b ∷ []) = false
 begins_with_close (b ∷ c ∷ bs) = b == 42 && c == 47
 
+-- whether the end of a comment comes
 abbrev pub has_close : List ℕ → Bool
 has_close [] = false
 has_close (b ∷ bs) = begins_with_close (b ∷ bs) || has_close bs

@@ -25,10 +25,12 @@ pub record IsNextItem (ts : List Lexeme) (n : ℕ) (item : Item) : Type 0 where
   pub goes : Goes n ts
   pub is_item : IsItem (take n ts) item
 
+-- whether a colon comes
 abbrev pub starts_with_colon : List Lexeme → Bool
 starts_with_colon [] = false
 starts_with_colon (t ∷ ts) = fits (the_mark 58) t.symbol
 
+-- whether a name with a colon after it comes
 abbrev pub starts_with_label : List Lexeme → Bool
 starts_with_label [] = false
 starts_with_label (t ∷ ts) = fits name t.symbol && starts_with_colon ts

@@ -49,20 +49,24 @@ pub record Mnemonic : Type 0 where
 abbrev pub x_word : List ℕ
 x_word = codes "x"
 
+-- the word for A
 abbrev pub a_word : List ℕ
 a_word = codes "a"
 
+-- the word for the packet's length
 abbrev pub length_word : List ℕ
 length_word = codes "len"
 
+-- the word for scratch memory
 abbrev pub memory_word : List ℕ
 memory_word = codes "M"
 
+-- the words that have a meaning of their own in an operand, so that no label has their names
 abbrev pub operand_words : List (List ℕ)
 operand_words = length_word ∷ x_word ∷ a_word ∷ memory_word ∷ []
 
--- each form of the first part, with each form of the second after it; a form is a list of classes
 infixl 60 ◌·◌
+-- each form of the first part, with each form of the second after it; a form is a list of classes
 abbrev pub ◌·◌ : List (List Class) → List (List Class) → List (List Class)
 fs · gs = flat_map (λ f. map (λ g. f ++ g) gs) fs
 
@@ -79,27 +83,35 @@ one_mark b = one (the_mark b)
 abbrev open_bracket : List (List Class)
 open_bracket = one_mark 91
 
+-- the mark `]`
 abbrev close_bracket : List (List Class)
 close_bracket = one_mark 93
 
+-- the mark `(`
 abbrev open_parenthesis : List (List Class)
 open_parenthesis = one_mark 40
 
+-- the mark `)`
 abbrev close_parenthesis : List (List Class)
 close_parenthesis = one_mark 41
 
+-- the mark `*`
 abbrev asterisk : List (List Class)
 asterisk = one_mark 42
 
+-- the mark `&`
 abbrev ampersand : List (List Class)
 ampersand = one_mark 38
 
+-- the mark `+`
 abbrev plus : List (List Class)
 plus = one_mark 43
 
+-- the mark `#`
 abbrev hash : List (List Class)
 hash = one_mark 35
 
+-- the mark `,`
 abbrev pub comma : List (List Class)
 comma = one_mark 44
 

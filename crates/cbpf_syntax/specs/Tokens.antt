@@ -11,6 +11,7 @@ use Rattle.cbpf_syntax.specs.declared.token.LexFault.{LexFault}
 use Rattle.cbpf_syntax.specs.declared.token.LexFault.TheVariants.{Memory, At}
 use Rattle.cbpf_syntax.specs.Pieces.{IsCut, IsPieceAt}
 
+-- whether a piece is no bad one
 abbrev pub is_good : PieceKind → Bool
 is_good Blanks = true
 is_good Comment = true

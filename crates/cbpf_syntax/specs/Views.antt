@@ -18,6 +18,7 @@ use Rattle.cbpf_syntax.specs.Table as tables
 use Rattle.cbpf_syntax.specs.Table.{◌·◌, x_operand, a_operand, signed, extension_operand, length_operand, label}
 use Rattle.cbpf_syntax.specs.Table.{absolute, indexed, memory, immediate, header, comma, no_operand, entry, mnemonic}
 
+-- the class of tokens that one of the code's stands for
 abbrev pub class_of : Class → classes.Class
 class_of (Word w) = the_word w.now
 class_of (Mark b) = the_mark b
@@ -51,13 +52,16 @@ entry_of e = entry (mode_forms e.mode) e.op e.fields
 abbrev pub mnemonic_view : Mnemonic → tables.Mnemonic
 mnemonic_view m = mnemonic m.word.now (map entry_of m.entries.now)
 
+-- the symbol that one of the code's stands for
 abbrev pub symbol_of : Symbol → lexemes.Symbol
 symbol_of (symbols.Word w) = lexemes.Symbol.word w.now
 symbol_of (symbols.Number n) = lexemes.Symbol.number n
 symbol_of (symbols.Mark b) = lexemes.Symbol.mark b
 
+-- likewise a token
 abbrev pub lexeme_of : Lexeme → lexemes.Lexeme
 lexeme_of t = record { symbol = symbol_of t.symbol; at = t.at }
 
+-- likewise a row of the table
 abbrev pub row_of : Row → tables.Row
 row_of r = record { mnemonic = r.mnemonic.now; operand = map class_of r.operand.now; op = r.op; fields = r.fields }

@@ -3,6 +3,7 @@ use Rattle.cbpf_tool.specs.Hosted.{Event, opened, not_opened, created, not_creat
 use Rattle.cbpf_tests.specs.declared.done.Done.{Done}
 use Rattle.cbpf_tests.specs.declared.done.Done.TheVariants.{Opened, NotOpened, Created, NotCreated, Wrote, Printed}
 
+-- the event that one of the code's stands for
 abbrev pub event : Done → Event
 event (Opened name) = opened name.items
 event (NotOpened name) = not_opened name.items

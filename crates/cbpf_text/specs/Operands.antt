@@ -23,6 +23,7 @@ literal_of [] ts = 0
 literal_of (c ∷ cs) [] = 0
 literal_of (c ∷ cs) (t ∷ ts) = unwrap_or (value_at c t.symbol) (literal_of cs ts)
 
+-- the number that an item has, or 0
 abbrev pub literal_in : Item → ℕ
 literal_in item = literal_of (classes item.row) item.body
 

@@ -34,6 +34,7 @@ pub record Use : Type 0 where
   pub target : Lexeme
   pub conditional : Bool
 
+-- whether fields are those of a conditional jump
 abbrev pub is_conditional : Fields → Bool
 is_conditional Constant = false
 is_conditional Goto = false

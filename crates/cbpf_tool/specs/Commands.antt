@@ -52,6 +52,7 @@ breakpoint_by (n ∷ r ∷ v ∷ []) = by_both (λ i when. Session (Breakpoint i
     (option_and_then (condition r) (number_up_to (2 ^ 32 - 1) v))
 breakpoint_by _ = None
 
+-- `delete` with its argument
 abbrev pub delete_by : List (List ℕ) → Option Command
 delete_by ws = option_map (λ n. Session (Delete n)) (sole_number ws)
 
@@ -61,6 +62,7 @@ step_by [] = Some (Session (Step (pos 1)))
 step_by (w ∷ []) = option_map (λ n. Session (Step n)) (signed_number (2 ^ 63 - 1) w)
 step_by _ = None
 
+-- `select` with its argument
 abbrev pub select_by : List (List ℕ) → Option Command
 select_by ws = option_map (λ n. Session (Select n)) (sole_number ws)
 
@@ -114,10 +116,12 @@ command_table =
     ∷ (codes "quit", λ ws text. alone Quit ws)
     ∷ []
 
+-- a command, or wrong arguments where there is none
 abbrev pub or_wrong : Option Command → Result (Option Command) CommandFault
 or_wrong None = Err WrongArguments
 or_wrong (Some c) = Ok (Some c)
 
+-- the command of a row that was found, or else an unknown one
 abbrev pub by_reading : Option ReadsArguments → List (List ℕ) → List ℕ → Result (Option Command) CommandFault
 by_reading None ws text = Err UnknownCommand
 by_reading (Some read) ws text = or_wrong (read ws text)
@@ -126,6 +130,7 @@ by_reading (Some read) ws text = or_wrong (read ws text)
 abbrev pub by_name : List ℕ → List (List ℕ) → List ℕ → Result (Option Command) CommandFault
 by_name w ws text = by_reading (lookup (bytes_eq w) command_table) ws text
 
+-- the command of a line's words; a line without words is none
 abbrev pub by_words : List (List ℕ) → List ℕ → Result (Option Command) CommandFault
 by_words [] text = Ok None
 by_words (w ∷ ws) text = by_name w ws text

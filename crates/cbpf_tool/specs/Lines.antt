@@ -8,6 +8,7 @@ abbrev pub lines : List ℕ → List (List ℕ)
 lines [] = []
 lines (b ∷ bs) = if b == 10 then ([] ∷ lines bs) else put_front b (lines bs)
 
+-- whether a newline is among some bytes
 abbrev pub has_newline : List ℕ → Bool
 has_newline bs = list_any (λ b. b == 10) bs
 

@@ -10,6 +10,7 @@ number_up_to most [] = None
 number_up_to most (b ∷ bs) =
     if list_all is_digit (b ∷ bs) && nat_le (decimal_value (b ∷ bs)) most then Some (decimal_value (b ∷ bs)) else None
 
+-- the negative of a number
 abbrev pub minus : ℕ → ℤ
 minus zero = pos 0
 minus (suc n) = negsuc n

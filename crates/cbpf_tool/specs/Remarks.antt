@@ -15,6 +15,7 @@ use Rattle.cbpf_why.specs.declared.report.Report.{Report}
 use Rattle.cbpf_why.specs.declared.report.Report.TheVariants.{Summary, Ways, Packets, Coverage, Graph}
 use Rattle.cbpf_tool.specs.declared.remarks.Remarks.{Remarks}
 
+-- whether a report is the summary
 abbrev pub is_summary : Report → Bool
 is_summary Summary = true
 is_summary Ways = false
@@ -47,6 +48,7 @@ lacking_text range =
     if range.first == range.last then with_number (codes "no packet ") range.first (codes "\n")
     else concat (codes "no packets " ∷ decimal range.first ∷ codes "-" ∷ decimal range.last ∷ codes "\n" ∷ [])
 
+-- the line of packets that the capture lacks, where it lacks some
 abbrev pub lacking_line : Option (List ℕ) → Option PacketRange → List ℕ
 lacking_line name None = []
 lacking_line name (Some range) = line_start name ++ lacking_text range
@@ -58,6 +60,7 @@ ending_line name count (Some Whole) = []
 ending_line name count (Some (CutHeader offset)) = line_start name ++ cut_text count (CutHeader offset)
 ending_line name count (Some (CutData offset)) = line_start name ++ cut_text count (CutData offset)
 
+-- the bytes of the capture's name, where it has one
 abbrev pub name_in : Remarks → Option (List ℕ)
 name_in r = option_map (λ n. string_bytes n) r.capture
 

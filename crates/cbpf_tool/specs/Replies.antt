@@ -48,6 +48,7 @@ pub data ReadsCapture (m : View) (bytes : List ℕ) (reply : Reply) : Type 0 whe
   a_capture : (capture : Savefile) → IsSavefile bytes capture
       → reply ≡ (capture_text capture, with_capture_loaded m capture) → ReadsCapture m bytes reply
 
+-- the replies to a capture's bytes, or where there is no such file
 abbrev pub LoadsCapture : View → Option (List ℕ) → Reply → Type 0
 LoadsCapture m None reply = reply ≡ (load_fault_text Absent, m)
 LoadsCapture m (Some bytes) reply = ReadsCapture m bytes reply

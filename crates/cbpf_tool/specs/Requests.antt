@@ -42,6 +42,7 @@ number_of_packet word = option_and_then positive (number_up_to (2 ^ 64 - 1) word
 abbrev pub range_between : ℕ → ℕ → Option PacketRange
 range_between first last = if nat_le first last then Some (record { first = first; last = last }) else None
 
+-- the range that a word spells, given what stands before and after its `-`, if it has one
 abbrev pub range_by : Option (List ℕ × List ℕ) → List ℕ → Option PacketRange
 range_by None word = option_map (λ n. record { first = n; last = n }) (number_of_packet word)
 range_by (Some ends) word =
@@ -63,6 +64,7 @@ extension_value word =
 abbrev pub value_in : List ℕ → Option (Ext × ℕ)
 value_in word = option_and_then (λ v. if takes_value v.0 then Some v else None) (extension_value word)
 
+-- values with one that was given
 abbrev pub with_given : Values → Option (Ext × ℕ) → Values
 with_given values None = values
 with_given values (Some v) = with_value values v.0 v.1
@@ -91,6 +93,7 @@ abbrev pub refusal_text : List ℕ → List ℕ → List ℕ
 refusal_text word argument =
     codes "invalid value '" ++ (word ++ (codes "' for '" ++ (argument ++ codes "'")))
 
+-- the fault of a word, where one is refused
 abbrev pub refused_by : Option (List ℕ) → Kinds
 refused_by None = []
 refused_by (Some word) = word_faults
@@ -99,6 +102,7 @@ refused_by (Some word) = word_faults
 abbrev pub why_faults : WhyAsked → Kinds
 why_faults asked = or_else (refused_by (no_value asked.values)) (refused_by (no_packets asked.packets))
 
+-- the faults of a job's words
 abbrev pub faults_by : Requested → Kinds
 faults_by (job asked) = []
 faults_by (why asked) = why_faults asked

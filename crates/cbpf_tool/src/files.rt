@@ -14,6 +14,7 @@ pub trait Files {
     /// The files, the count of failures, and whether the source says what it holds.
     ghost source: { Self → FileSource };
 
+    /// The bytes of the file of this name.
     fn load<A: Allocator>(&mut self, alloc: A, name: &str) -> Result<Vec<u8, A>, LoadFault>
         ensures { Loads (λ v. v.items) (source self.old) (source self.new) name.now result };
 }

@@ -5,6 +5,7 @@ use Rattle.std.specs.List.{All, list_any}
 use Rattle.pcap_classic.specs.Records.{Record}
 use Rattle.cbpf_why.specs.declared.chosen.PacketRange.{PacketRange}
 
+-- whether a packet's number is in a range
 abbrev pub is_within : ℕ → PacketRange → Bool
 is_within n range = nat_le range.first n && nat_le n range.last
 

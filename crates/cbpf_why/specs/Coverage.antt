@@ -10,14 +10,17 @@ use Rattle.pcap_classic.specs.Records.{Record}
 use Rattle.cbpf_why.specs.Runs.{executed, taken}
 use Rattle.cbpf_why.specs.Operations.{is_op_at, is_test}
 
+-- how often a comparison held and didn't
 abbrev pub both_ways : ℕ → ℕ → List ℕ
 both_ways ran held = concat (codes "\ttrue " ∷ decimal held ∷ codes " false " ∷ decimal (ran - held) ∷ [])
 
+-- the line of an instruction that ran so often, and whose comparison held so often
 abbrev pub coverage_line : List Insn → ℕ → ℕ → ℕ → List ℕ
 coverage_line list i ran held =
     concat (decimal ran ∷ codes "\t" ∷ line_text list i ∷ (if is_op_at is_test list i then both_ways ran held else [])
     ∷ codes "\n" ∷ [])
 
+-- the line of an instruction over some records
 abbrev pub coverage_at : Machine → List Record → ℕ → List ℕ
 coverage_at m records i = coverage_line m.list i (executed m records i) (taken m records i)
 

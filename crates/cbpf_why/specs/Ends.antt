@@ -34,6 +34,7 @@ kind_of (outcome_is.Unknown e) = verdict_is.Unknown
 abbrev pub verdict_of : End → Verdict
 verdict_of reason = kind_of (outcome_of (turn_of reason))
 
+-- whether two verdicts are the same
 abbrev pub is_verdict : Verdict → Verdict → Bool
 is_verdict verdict_is.Pass verdict_is.Pass = true
 is_verdict verdict_is.Fail verdict_is.Fail = true
@@ -56,6 +57,7 @@ ended_at m r s = record { packet = r.number; pc = s.pc; reason = end_by (turn m 
 abbrev pub ended : Machine → Record → Ended
 ended m r = ended_at m r (last_or zero_state (trace m r.bytes r.wire))
 
+-- how packets end
 abbrev pub ends_of : Machine → List Record → List Ended
 ends_of m records = map (ended m) records
 
@@ -73,6 +75,7 @@ decided m r = record {
   by = deciding (ended m r).reason (last_choice m.list (trace m r.bytes r.wire));
 }
 
+-- how packets end, each with what decided it
 abbrev pub decided_of : Machine → List Record → List Decided
 decided_of m records = map (decided m) records
 
@@ -80,16 +83,19 @@ decided_of m records = map (decided m) records
 abbrev pub alone : Machine → Record → Decided
 alone m r = record { ended = ended m r; by = None }
 
+-- how packets end, each with no jump beside
 abbrev pub alone_of : Machine → List Record → List Decided
 alone_of m records = map (alone m) records
 
 -- ---- the words for it
 
+-- the word for a verdict
 abbrev pub verdict_text : Verdict → List ℕ
 verdict_text verdict_is.Pass = codes "pass"
 verdict_text verdict_is.Fail = codes "fail"
 verdict_text verdict_is.Unknown = codes "unknown"
 
+-- the word for whether a comparison held
 abbrev pub truth_text : Bool → List ℕ
 truth_text true = codes "true"
 truth_text false = codes "false"
@@ -98,6 +104,7 @@ truth_text false = codes "false"
 abbrev pub test_text : List Insn → Choice → List ℕ
 test_text list c = concat (line_text list c.pc ∷ codes ", " ∷ truth_text c.taken ∷ [])
 
+-- the word for the verdict of a packet that ended
 abbrev pub verdict_in : Ended → List ℕ
 verdict_in e = verdict_text (verdict_of e.reason)
 

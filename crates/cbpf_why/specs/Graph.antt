@@ -36,6 +36,7 @@ opens_by to at insn (Some RetK) = at + 1 == to
 opens_by to at insn (Some RetA) = at + 1 == to
 opens_by to at insn _ = false
 
+-- whether an instruction, given with its index, opens a block at `to`
 abbrev pub opens : ℕ → ℕ × Insn → Bool
 opens to e = opens_by to e.0 e.1 (op_of e.1.code)
 
@@ -60,9 +61,11 @@ label_byte b =
     if b == 38 then codes "&amp;" else (if b == 60 then codes "&lt;" else (if b == 62 then codes "&gt;"
     else (if b == 9 then codes " " else (b ∷ []))))
 
+-- a text as it stands in a label
 abbrev pub label_text : List ℕ → List ℕ
 label_text text = flat_map label_byte text
 
+-- likewise in grey
 abbrev pub grey_text : List ℕ → List ℕ
 grey_text text = codes "<font color=\"grey\">" ++ (label_text text ++ codes "</font>")
 
@@ -76,6 +79,7 @@ block_line list i count = counted_text (line_text list i) count ++ codes "<br al
 
 -- ---- nodes and edges
 
+-- the name of the node of an instruction
 abbrev pub node : ℕ → List ℕ
 node i = codes "l" ++ decimal i
 
@@ -114,6 +118,7 @@ edges_by block i insn f (Some RetK) = []
 edges_by block i insn f (Some RetA) = []
 edges_by block i insn f (Some op) = edge block (i + 1) [] (f.runs.executed - ended_in f)
 
+-- the edges from an instruction at the end of a block
 abbrev pub edges_of : ℕ → ℕ → Facts → Option Insn → List ℕ
 edges_of block i f None = []
 edges_of block i f (Some insn) = edges_by block i insn f (op_of insn.code)
@@ -122,6 +127,7 @@ edges_of block i f (Some insn) = edges_by block i insn f (op_of insn.code)
 abbrev pub block_head : ℕ → List ℕ
 block_head block = concat (node block ∷ codes " [label=<" ∷ [])
 
+-- how the node of a block ends that ran so often
 abbrev pub block_end : ℕ → List ℕ
 block_end count = concat (codes ">" ∷ grey_where_none count ∷ codes "]\n" ∷ [])
 
@@ -138,11 +144,13 @@ block_part list i f =
     ++ (block_line list i f.runs.executed
     ++ (if is_last list i then end_and_ways block list i f else []))
 
+-- the colour of a verdict
 abbrev pub colour : Verdict → List ℕ
 colour Pass = codes "palegreen"
 colour Fail = codes "lightsalmon"
 colour Unknown = codes "khaki"
 
+-- the name of the node of packets that ended
 abbrev pub end_node : Ended → List ℕ
 end_node e = verdict_in e ++ decimal e.pc
 
@@ -164,9 +172,11 @@ group_end block g = group_end_by block g.count g.first
 
 -- ---- the graph
 
+-- the nodes of packets that ended at an instruction
 abbrev pub end_part : ℕ → Facts → List ℕ
 end_part block f = group_end block f.passed ++ (group_end block f.failed ++ group_end block f.unknown)
 
+-- how a graph begins
 abbrev pub graph_head : List ℕ
 graph_head = codes "digraph filter {\nnode [shape=box fontname=monospace]\n"
 

@@ -22,9 +22,11 @@ abbrev pub row_by : ℕ → Option Choice → ℕ
 row_by pc None = 2 * pc
 row_by pc (Some c) = 2 * c.pc + (if c.taken then 0 else 1)
 
+-- the row of a packet that ended
 abbrev pub row : Decided → ℕ
 row d = row_by d.ended.pc d.by
 
+-- whether a packet stands in a row with a verdict
 abbrev pub is_in_group : ℕ → Verdict → Decided → Bool
 is_in_group i v d = (row d == i) && is_verdict v (verdict_of d.ended.reason)
 

@@ -39,6 +39,7 @@ pub record InOneGroup (n : ℕ) (d : Decided) : Type 0 where
   pub there : is_in_group (row d) (verdict_of d.ended.reason) d ≡ true
   pub alone : (i : ℕ) (v : Verdict) → is_in_group i v d ≡ true → (i ≡ row d) × (v ≡ verdict_of d.ended.reason)
 
+-- each record is in exactly one group
 abbrev pub EachInOneGroup : Type 0
 EachInOneGroup = (m : Machine) → IsSound m.list → (r : Record) → InOneGroup (length m.list) (decided m r)
 

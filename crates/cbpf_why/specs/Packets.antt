@@ -12,6 +12,7 @@ abbrev pub choice_columns : Option Choice → List ℕ
 choice_columns None = codes "\t-\t-"
 choice_columns (Some c) = concat (codes "\tl" ∷ decimal c.pc ∷ codes "\t" ∷ truth_text c.taken ∷ [])
 
+-- the line of a packet
 unfoldable pub packet_line : Decided → List ℕ
 packet_line d =
     concat (decimal d.ended.packet ∷ codes "\t" ∷ verdict_in d.ended ∷ codes "\tl" ∷ decimal d.ended.pc ∷ codes "\t"

@@ -55,6 +55,7 @@ packets_text report m records = flat_map (packet_text report m) records
 abbrev pub end_after : ℕ → Ending → CaptureEnd
 end_after count ending = record { count = count; ending = ending }
 
+-- how a capture ends
 abbrev pub capture_end : Savefile → CaptureEnd
 capture_end c = end_after (length c.records) c.ending
 

@@ -21,6 +21,7 @@ use Rattle.cbpf_why.specs.Operations.{is_op_at, is_jump}
 abbrev pub register_text : List ℕ → ℕ → List ℕ
 register_text name v = concat (name ∷ codes " " ∷ decimal v ∷ codes " (0x" ∷ hex 1 v ∷ codes ")" ∷ [])
 
+-- A and X, each in decimal and hexadecimal
 abbrev pub registers_text : ℕ → ℕ → List ℕ
 registers_text a x = concat (register_text (codes "A") a ∷ codes " " ∷ register_text (codes "X") x ∷ [])
 
@@ -29,6 +30,7 @@ abbrev pub went_to : Option Registers → List ℕ
 went_to None = []
 went_to (Some t) = with_number (codes "\tto l") t.pc []
 
+-- where a jump went; nothing of another instruction
 abbrev pub went_text : List Insn → Registers → Option Registers → List ℕ
 went_text list s next = if is_op_at is_jump list s.pc then went_to next else []
 
@@ -37,6 +39,7 @@ abbrev pub step_line : List Insn → Registers → Option Registers → List ℕ
 step_line list s next =
     concat (line_text list s.pc ∷ codes "\t" ∷ registers_text s.a s.x ∷ went_text list s next ∷ codes "\n" ∷ [])
 
+-- the line of one entry of a trace
 abbrev pub step_text : Machine → Record → Registers → List ℕ
 step_text m r s = step_line m.list s (next_of (turn m r.bytes r.wire s))
 

@@ -5,6 +5,7 @@ use Rattle.cbpf_machine.specs.Outcomes.{is_pass}
 use Rattle.cbpf_machine.specs.Trace.{outcome}
 use Rattle.pcap_classic.specs.Records.{Record}
 
+-- whether a packet passes
 abbrev pub passes : Machine → Record → Bool
 passes m r = is_pass (outcome m r.bytes r.wire)
 

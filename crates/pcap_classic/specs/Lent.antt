@@ -2,6 +2,7 @@
 use Rattle.pcap_classic.specs.Records.{Record}
 use Rattle.pcap_classic.specs.declared.captured.Captured.{Captured}
 
+-- the record that is lent
 abbrev pub record_of : Captured → Record
 record_of c =
     record {

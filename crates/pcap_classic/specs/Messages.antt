@@ -9,9 +9,11 @@ use Rattle.pcap_classic.specs.declared.reading.OpenFault.TheVariants as opening
 use Rattle.pcap_classic.specs.declared.reading.ReadFault.{ReadFault}
 use Rattle.pcap_classic.specs.declared.reading.ReadFault.TheVariants as reading
 
+-- what the fault of a growth that is refused says
 abbrev pub out_of_memory : List ℕ
 out_of_memory = codes "out of memory"
 
+-- what the refusal of a capture says
 abbrev pub capture_message : CaptureFault → List ℕ
 capture_message capture.FileHeaderCut = codes "P1 file header is cut"
 capture_message capture.UnknownMagic = codes "P2 unknown magic"
@@ -22,10 +24,12 @@ capture_message capture.Memory = out_of_memory
 abbrev pub header_message : HeaderFault → List ℕ
 header_message fault = capture_message (capture_fault fault)
 
+-- what the fault of a read says
 abbrev pub read_message : ReadFault → List ℕ
 read_message (reading.Read cause) = codes "read fault"
 read_message reading.Memory = out_of_memory
 
+-- what the fault of a reader that can't begin says
 abbrev pub open_message : OpenFault → List ℕ
 open_message (opening.Header fault) = header_message fault
 open_message (opening.Read fault) = read_message fault

@@ -11,10 +11,11 @@ use Rattle.pcap_classic.specs.declared.header.CaptureFault.TheVariants.{Memory}
 use Rattle.pcap_classic.specs.declared.header.HeaderFault.{HeaderFault}
 use Rattle.pcap_classic.specs.declared.header.HeaderFault.TheVariants as header_fault
 
--- the magic number of time stamps in microseconds, and in nanoseconds
+-- the magic number of time stamps in microseconds
 abbrev pub micros_magic : ℕ
 micros_magic = 0xa1b2c3d4
 
+-- the magic number of time stamps in nanoseconds
 abbrev pub nanos_magic : ℕ
 nanos_magic = 0xa1b23c4d
 
