@@ -82,7 +82,8 @@ fn is_read_as_a_whole(rt: &impl Test, bytes: &[u8], chunk: usize) -> bool {
     let reader = CaptureReader::new(rt.alloc(), FaultyReader::new(bytes, chunk.max(1), 0));
     match (Capture::from_bytes(rt.alloc(), all), reader) {
         (Ok(capture), Ok(mut reader)) => reads_all(&mut reader, &capture),
-        (Err((fault, _bytes)), Err(OpenFault::Header(other))) => fault == CaptureFault::from(other),
+        (Err((fault, _bytes)), Err(OpenFault::Header(other))) => fault
+            == CaptureFault::Header(other),
         _ => false,
     }
 }

@@ -50,11 +50,10 @@ fn faults_of_lines_and_files(rt: HostRuntime) {
 /// What a fault says is shown by `{}` without `error: `.
 #[test]
 fn faults_of_captures(rt: HostRuntime) {
-    assert_shown(&rt, CaptureFault::FileHeaderCut, "P1 file header is cut");
-    assert_shown(&rt, CaptureFault::UnknownMagic, "P2 unknown magic");
-    assert_shown(&rt, CaptureFault::UnknownVersion, "P3 version is not 2.4");
+    let magic = CaptureFault::Header(HeaderFault::UnknownMagic);
+    assert_shown(&rt, magic, "P2 unknown magic");
     assert_shown(&rt, CaptureFault::Memory, "out of memory");
-    assert_shown(&rt, HeaderFault::UnknownMagic, "P2 unknown magic");
+    assert_shown(&rt, HeaderFault::UnknownVersion, "P3 version is not 2.4");
     let cut = OpenFault::Header(HeaderFault::FileHeaderCut);
     assert_shown(&rt, cut, "P1 file header is cut");
     let failed = ReadFault::Read(Error::from(ErrorKind::Interrupted));

@@ -15,7 +15,7 @@ use Rattle.pcap_classic.specs.declared.captured.Extent.TheVariants.{Nothing, Par
 use Rattle.pcap_classic.specs.declared.ending.Ending.{Ending}
 use Rattle.pcap_classic.specs.declared.header.{HeaderFault.HeaderFault, FileHeader.FileHeader, TheConstants.FILE_HEADER}
 use Rattle.pcap_classic.specs.Records.{AreNumbered, Record, record_at, record_length}
-use Rattle.pcap_classic.specs.Savefile.{Savefile, IsSavefile, IsRefusal, capture_fault}
+use Rattle.pcap_classic.specs.Savefile.{Savefile, IsSavefile, IsHeaderRefusal}
 use Rattle.pcap_classic.specs.Contents.{extent_of, header_of, savefile_from}
 use Rattle.pcap_classic.specs.Index.{ending_by}
 use Rattle.pcap_classic.specs.Reading.{Gives, HasRecord, NeedsRoom}
@@ -250,7 +250,7 @@ opened (Some file) (Some rest) front header k e =
 -- the bytes have the fault
 pub refused : (a b : Option (List ℕ)) (front : List ℕ) (fault : HeaderFault)
     → Keeps (prepend_known [] a) (prepend_known front b) → (length front < FILE_HEADER → IsAtEnd b)
-    → header_of front ≡ Err fault → IfSome a (IsRefusal (capture_fault fault))
+    → header_of front ≡ Err fault → IfSome a (IsHeaderRefusal fault)
 refused None b front fault k end e = tt
 refused (Some file) None front fault k end e = absurd k
 refused (Some file) (Some rest) front fault k end e = elim (cases_lt (length front) FILE_HEADER) [

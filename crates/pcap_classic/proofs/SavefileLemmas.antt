@@ -6,13 +6,12 @@ use Rattle.pcap_classic.specs.FileNumbers.{number_at}
 use Rattle.std.proofs.lemmas.Bool.{ltb-false, ltb-true}
 use Rattle.std.proofs.lemmas.Bool.Decides.{nat_tests}
 use Rattle.pcap_classic.specs.Savefile.{Savefile, IsSavefile, IsRefusal, HasMagic, HasVersion, OneCapture, OneRefusal, OnlyMemory}
-use Rattle.pcap_classic.specs.Savefile.{HasAnswer, capture_fault}
+use Rattle.pcap_classic.specs.Savefile.{HasAnswer, IsHeaderRefusal}
 use Rattle.pcap_classic.specs.Contents.{magic_of, is_version_2_4, header_by_magic, header_of, savefile_with}
 use Rattle.pcap_classic.specs.declared.captured.Endianness.{Endianness, TheVariants.Big, TheVariants.Little}
-use Rattle.pcap_classic.specs.declared.header.CaptureFault.{CaptureFault, TheVariants.Memory}
-use Rattle.pcap_classic.specs.declared.header.CaptureFault.TheVariants.{FileHeaderCut, UnknownMagic, UnknownVersion}
+use Rattle.pcap_classic.specs.declared.header.CaptureFault.{CaptureFault, TheVariants.Header, TheVariants.Memory}
 use Rattle.pcap_classic.specs.declared.header.HeaderFault.{HeaderFault}
-use Rattle.pcap_classic.specs.declared.header.HeaderFault.TheVariants as header_fault
+use Rattle.pcap_classic.specs.declared.header.HeaderFault.TheVariants.{FileHeaderCut, UnknownMagic, UnknownVersion}
 use Rattle.pcap_classic.specs.declared.header.{Magic.Magic, FileHeader.FileHeader, TheConstants.FILE_HEADER}
 use Rattle.pcap_classic.proofs.HoldsLemmas.{contents-hold, holds-once}
 
@@ -35,7 +34,7 @@ one_magic file order order' nanos nanos' a b =
 -- what the function of the header gives
 abbrev pub Says : List ℕ → Result FileHeader HeaderFault → Type 0
 Says file (Ok header) = IsSavefile file (savefile_with header file)
-Says file (Err fault) = IsRefusal (capture_fault fault) file
+Says file (Err fault) = IsHeaderRefusal fault file
 
 -- what the function finds is there
 magic-is : (file : List ℕ) (m : Magic) → magic_of file ≡ Some m → HasMagic m.order m.nanos file
@@ -52,7 +51,7 @@ says file = by (nat_lt (length file) FILE_HEADER) refl (magic_of file) refl
   where
     by_version : (m : Magic) → FILE_HEADER ≤ length file → HasMagic m.order m.nanos file → (b : Bool)
         → is_version_2_4 m.order file ≡ b
-        → Says file (if b then Ok (record { magic = m; link = number_at m.order 20 4 file }) else Err header_fault.UnknownVersion)
+        → Says file (if b then Ok (record { magic = m; link = number_at m.order 20 4 file }) else Err UnknownVersion)
     by_version m long magic true h = record {
       order = m.order;
       long = long;
@@ -65,7 +64,7 @@ says file = by (nat_lt (length file) FILE_HEADER) refl (magic_of file) refl
         (long, m.order, m.nanos, magic, λ v. let is = version-found m.order file v in absurd (cc))
 
     by : (b : Bool) → nat_lt (length file) FILE_HEADER ≡ b → (m : Option Magic) → magic_of file ≡ m
-        → Says file (if b then Err header_fault.FileHeaderCut else header_by_magic m file)
+        → Says file (if b then Err FileHeaderCut else header_by_magic m file)
     by true short m e = ltb-true (length file) FILE_HEADER short
     by false long None e =
         (ltb-false _ FILE_HEADER long, λ order nanos h. let is = magic-found file order nanos h in absurd (cc))
@@ -87,21 +86,21 @@ one_capture file c d h k =
 
 pub only_memory : OnlyMemory
 only_memory file c Memory h k = refl
-only_memory file c FileHeaderCut h k = let long = h.long in absurd (omega (arith, k))
-only_memory file c UnknownMagic h k = absurd (k.1 h.order c.nanos h.magic)
-only_memory file c UnknownVersion h k =
+only_memory file c (Header FileHeaderCut) h k = let long = h.long in absurd (omega (arith, k))
+only_memory file c (Header UnknownMagic) h k = absurd (k.1 h.order c.nanos h.magic)
+only_memory file c (Header UnknownVersion) h k =
     absurd (k.4 (rw (← (one_magic file k.1 h.order k.2 c.nanos k.3 h.magic).0) h.version))
 
 pub one_refusal : OneRefusal
 one_refusal file Memory f h k = only_memory file h.0 f h.1 k
 one_refusal file e Memory h k = sym (only_memory file k.0 e k.1 h)
-one_refusal file UnknownMagic UnknownMagic h k = refl
-one_refusal file UnknownVersion UnknownVersion h k = refl
-one_refusal file UnknownMagic UnknownVersion h k = absurd (h.1 k.1 k.2 k.3)
-one_refusal file UnknownVersion UnknownMagic h k = absurd (k.1 h.1 h.2 h.3)
-one_refusal file FileHeaderCut FileHeaderCut h k = refl
-one_refusal file FileHeaderCut _ h k = absurd (omega (arith, h, k.0))
-one_refusal file _ FileHeaderCut h k = absurd (omega (arith, k, h.0))
+one_refusal file (Header UnknownMagic) (Header UnknownMagic) h k = refl
+one_refusal file (Header UnknownVersion) (Header UnknownVersion) h k = refl
+one_refusal file (Header UnknownMagic) (Header UnknownVersion) h k = absurd (h.1 k.1 k.2 k.3)
+one_refusal file (Header UnknownVersion) (Header UnknownMagic) h k = absurd (k.1 h.1 h.2 h.3)
+one_refusal file (Header FileHeaderCut) (Header FileHeaderCut) h k = refl
+one_refusal file (Header FileHeaderCut) (Header _) h k = absurd (omega (arith, h, k.0))
+one_refusal file (Header _) (Header FileHeaderCut) h k = absurd (omega (arith, k, h.0))
 
 pub has_answer : HasAnswer
 has_answer file = by (header_of file) (says file)
@@ -109,7 +108,7 @@ has_answer file = by (header_of file) (says file)
     by : (r : Result FileHeader HeaderFault) → Says file r
         → ((c : Savefile) × IsSavefile file c) ⊎ ((e : CaptureFault) × IsRefusal e file)
     by (Ok header) s = inl (savefile_with header file, s)
-    by (Err e) s = inr (capture_fault e, s)
+    by (Err e) s = inr (Header e, s)
 
 -- what a file's header says of it
 pub header-says : (file : List ℕ) (r header : Result FileHeader HeaderFault) → r ≡ header_of file → r ≡ header

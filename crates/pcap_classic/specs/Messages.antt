@@ -1,9 +1,9 @@
 -- What the faults of a capture say, without `error: ` (this project's own).
 use Rattle.std.specs.Prelude.{List, ℕ, codes}
-use Rattle.pcap_classic.specs.Savefile.{capture_fault}
 use Rattle.pcap_classic.specs.declared.header.CaptureFault.{CaptureFault}
 use Rattle.pcap_classic.specs.declared.header.CaptureFault.TheVariants as capture
 use Rattle.pcap_classic.specs.declared.header.HeaderFault.{HeaderFault}
+use Rattle.pcap_classic.specs.declared.header.HeaderFault.TheVariants.{FileHeaderCut, UnknownMagic, UnknownVersion}
 use Rattle.pcap_classic.specs.declared.reading.OpenFault.{OpenFault}
 use Rattle.pcap_classic.specs.declared.reading.OpenFault.TheVariants as opening
 use Rattle.pcap_classic.specs.declared.reading.ReadFault.{ReadFault}
@@ -13,16 +13,16 @@ use Rattle.pcap_classic.specs.declared.reading.ReadFault.TheVariants as reading
 abbrev pub out_of_memory : List ℕ
 out_of_memory = codes "out of memory"
 
--- what the refusal of a capture says
-abbrev pub capture_message : CaptureFault → List ℕ
-capture_message capture.FileHeaderCut = codes "P1 file header is cut"
-capture_message capture.UnknownMagic = codes "P2 unknown magic"
-capture_message capture.UnknownVersion = codes "P3 version is not 2.4"
-capture_message capture.Memory = out_of_memory
-
--- as the fault of the same name
+-- what the refusal of a header says
 abbrev pub header_message : HeaderFault → List ℕ
-header_message fault = capture_message (capture_fault fault)
+header_message FileHeaderCut = codes "P1 file header is cut"
+header_message UnknownMagic = codes "P2 unknown magic"
+header_message UnknownVersion = codes "P3 version is not 2.4"
+
+-- and that of a capture
+abbrev pub capture_message : CaptureFault → List ℕ
+capture_message (capture.Header fault) = header_message fault
+capture_message capture.Memory = out_of_memory
 
 -- what the fault of a read says
 abbrev pub read_message : ReadFault → List ℕ

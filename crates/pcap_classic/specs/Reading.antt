@@ -3,7 +3,7 @@ use Rattle.std.specs.Prelude.{◌≡◌, ◌≢◌, ℕ, ◌+◌, ◌<◌, ◌^�
 use Rattle.pcap_classic.specs.Contents.{extent_of}
 use Rattle.pcap_classic.specs.Lent.{record_of}
 use Rattle.pcap_classic.specs.Records.{Record}
-use Rattle.pcap_classic.specs.Savefile.{Savefile, IsRefusal, capture_fault}
+use Rattle.pcap_classic.specs.Savefile.{Savefile, IsHeaderRefusal}
 use Rattle.pcap_classic.specs.declared.captured.Captured.{Captured}
 use Rattle.pcap_classic.specs.declared.captured.Endianness.{Endianness}
 use Rattle.pcap_classic.specs.declared.captured.Extent.TheVariants.{WholeRecord}
@@ -50,7 +50,7 @@ HasRecord s = s.records ≢ []
 
 -- the bytes have this fault of the header; of another fault nothing is said
 abbrev pub IsOpenFault : List ℕ → OpenFault → Type 0
-IsOpenFault file (open_fault.Header fault) = IsRefusal (capture_fault fault) file
+IsOpenFault file (open_fault.Header fault) = IsHeaderRefusal fault file
 IsOpenFault file (open_fault.Read fault) = Unit {0}
 
 -- where the end of a capture was found, no whole record stands in front

@@ -6,10 +6,9 @@ use Rattle.pcap_classic.specs.Records.{Record, Holds}
 use Rattle.pcap_classic.specs.declared.captured.Endianness.{Endianness}
 use Rattle.pcap_classic.specs.declared.ending.Ending.{Ending}
 use Rattle.pcap_classic.specs.declared.header.{CaptureFault.CaptureFault, TheConstants.FILE_HEADER}
-use Rattle.pcap_classic.specs.declared.header.CaptureFault.TheVariants.{FileHeaderCut, UnknownMagic, UnknownVersion}
-use Rattle.pcap_classic.specs.declared.header.CaptureFault.TheVariants.{Memory}
+use Rattle.pcap_classic.specs.declared.header.CaptureFault.TheVariants.{Header, Memory}
 use Rattle.pcap_classic.specs.declared.header.HeaderFault.{HeaderFault}
-use Rattle.pcap_classic.specs.declared.header.HeaderFault.TheVariants as header_fault
+use Rattle.pcap_classic.specs.declared.header.HeaderFault.TheVariants.{FileHeaderCut, UnknownMagic, UnknownVersion}
 
 -- the magic number of time stamps in microseconds
 abbrev pub micros_magic : ℕ
@@ -46,20 +45,18 @@ pub record IsSavefile (file : List ℕ) (c : Savefile) : Type 0 where
   pub link : c.link ≡ number_at order 20 4 file
   pub contents : Holds order 1 FILE_HEADER (drop FILE_HEADER file) c.records c.ending
 
+-- a file has no header of a capture, for this reason
+abbrev pub IsHeaderRefusal : HeaderFault → List ℕ → Type 0
+IsHeaderRefusal FileHeaderCut file = length file < FILE_HEADER
+IsHeaderRefusal UnknownMagic file = (FILE_HEADER ≤ length file)
+    × ((order : Endianness) (nanos : Bool) → ¬ HasMagic order nanos file)
+IsHeaderRefusal UnknownVersion file = (FILE_HEADER ≤ length file) × (order : Endianness) × (nanos : Bool)
+    × HasMagic order nanos file × (¬ HasVersion order file)
+
 -- a file is refused with this fault: why it holds no capture, or `Memory`, where the file does hold a capture with a record
 abbrev pub IsRefusal : CaptureFault → List ℕ → Type 0
-IsRefusal FileHeaderCut file = length file < FILE_HEADER
-IsRefusal UnknownMagic file = (FILE_HEADER ≤ length file)
-    × ((order : Endianness) (nanos : Bool) → ¬ HasMagic order nanos file)
-IsRefusal UnknownVersion file = (FILE_HEADER ≤ length file) × (order : Endianness) × (nanos : Bool)
-    × HasMagic order nanos file × (¬ HasVersion order file)
+IsRefusal (Header fault) file = IsHeaderRefusal fault file
 IsRefusal Memory file = (c : Savefile) × IsSavefile file c × (0 < length c.records)
-
--- the fault of a capture that a fault of the header is
-abbrev pub capture_fault : HeaderFault → CaptureFault
-capture_fault header_fault.FileHeaderCut = FileHeaderCut
-capture_fault header_fault.UnknownMagic = UnknownMagic
-capture_fault header_fault.UnknownVersion = UnknownVersion
 
 -- a file holds one capture at most
 abbrev pub OneCapture : Type 0

@@ -46,7 +46,7 @@ impl<A: Allocator> Capture<A> {
     ///
     /// # Errors
     ///
-    /// The first fault that stands, in the order of `CaptureFault`, with the same bytes.
+    /// The first fault of the header that stands, in the order of `HeaderFault`, or `Memory`, with the same bytes.
     pub fn from_bytes(alloc: A, bytes: Vec<u8, A>) -> Result<Capture<A>, (CaptureFault, Vec<u8, A>)>
         ensures capture { IfOk result (λ c. IsSavefile bytes.items c) }
         ensures refused { IfErr result (λ e. IsRefusal e.0 bytes.items) }
@@ -54,7 +54,7 @@ impl<A: Allocator> Capture<A> {
     {
         let header = match header_of(bytes.as_slice()) {
             Ok(header) => header,
-            Err(fault) => return Err((CaptureFault::from(fault), bytes)),
+            Err(fault) => return Err((CaptureFault::Header(fault), bytes)),
         };
         match index_of(alloc, header.magic.order, bytes.as_slice()) {
             Ok(index) => Ok(Capture {

@@ -2,7 +2,7 @@
 
 ghost use Rattle.std.specs.Prelude.{◌≡◌, ◌≤◌, length};
 ghost use Rattle.pcap_classic.specs.Contents as spec;
-ghost use Rattle.pcap_classic.specs.Messages.{capture_message};
+ghost use Rattle.pcap_classic.specs.Messages.{capture_message, header_message};
 
 use crate::captured::Endianness;
 use std::error::Error;
@@ -15,15 +15,48 @@ const MICROS: u32 = 0xa1b2_c3d4;
 
 const NANOS: u32 = 0xa1b2_3c4d;
 
-/// Why some bytes are no capture: the first of these reasons that stands.
+/// Why some bytes have no header of a capture: the first of these reasons that stands.
 #[derive(Clone, Copy, Debug, PartialEq, Eq)]
-pub enum CaptureFault {
+pub enum HeaderFault {
     /// P1: there are fewer than 24 bytes, the length of a file header.
     FileHeaderCut,
     /// P2: the first four bytes are neither 0xa1b2c3d4 nor 0xa1b23c4d, in either byte order.
     UnknownMagic,
     /// P3: the version is not 2.4.
     UnknownVersion,
+}
+
+impl HeaderFault {
+    /// What the program prints of it after `error: ` or `cbpf: `.
+    pub fn message(&self) -> &'static str
+        ensures { result.now ≡ header_message self.now }
+    {
+        match *self {
+            HeaderFault::FileHeaderCut => "P1 file header is cut",
+            HeaderFault::UnknownMagic => "P2 unknown magic",
+            HeaderFault::UnknownVersion => "P3 version is not 2.4",
+        }
+    }
+}
+
+impl fmt::Display for HeaderFault {
+    ghost use Rattle.std.specs.Prelude.{Some};
+    ghost use Rattle.pcap_classic.specs.Messages.{header_message};
+
+    ghost output = { λ fault. Some (header_message fault) };
+
+    fn fmt<W: fmt::Write>(&self, f: &mut fmt::Formatter<W>) -> fmt::Result {
+        f.write_str(self.message())
+    }
+}
+
+impl Error for HeaderFault {}
+
+/// Why some bytes are no capture.
+#[derive(Clone, Copy, Debug, PartialEq, Eq)]
+pub enum CaptureFault {
+    /// They have no header of one.
+    Header(HeaderFault),
     /// Out of memory for the index of the records. The bytes are a capture.
     Memory,
 }
@@ -33,10 +66,8 @@ impl CaptureFault {
     pub fn message(&self) -> &'static str
         ensures { result.now ≡ capture_message self.now }
     {
-        match *self {
-            CaptureFault::FileHeaderCut => "P1 file header is cut",
-            CaptureFault::UnknownMagic => "P2 unknown magic",
-            CaptureFault::UnknownVersion => "P3 version is not 2.4",
+        match self {
+            CaptureFault::Header(fault) => fault.message(),
             CaptureFault::Memory => "out of memory",
         }
     }
@@ -54,46 +85,6 @@ impl fmt::Display for CaptureFault {
 }
 
 impl Error for CaptureFault {}
-
-/// Why some bytes have no header of a capture: the first of these reasons that stands. Each is the `CaptureFault` of
-/// the same name.
-#[derive(Clone, Copy, Debug, PartialEq, Eq)]
-pub enum HeaderFault {
-    /// P1: there are fewer than 24 bytes, the length of a file header.
-    FileHeaderCut,
-    /// P2: the first four bytes are neither 0xa1b2c3d4 nor 0xa1b23c4d, in either byte order.
-    UnknownMagic,
-    /// P3: the version is not 2.4.
-    UnknownVersion,
-}
-
-impl From<HeaderFault> for CaptureFault {
-    ghost use Rattle.std.specs.Prelude.{◌≡◌};
-    ghost use Rattle.pcap_classic.specs.Savefile.{capture_fault};
-
-    ghost from_gives = { λ fault e. e ≡ capture_fault fault };
-
-    fn from(fault: HeaderFault) -> CaptureFault {
-        match fault {
-            HeaderFault::FileHeaderCut => CaptureFault::FileHeaderCut,
-            HeaderFault::UnknownMagic => CaptureFault::UnknownMagic,
-            HeaderFault::UnknownVersion => CaptureFault::UnknownVersion,
-        }
-    }
-}
-
-impl fmt::Display for HeaderFault {
-    ghost use Rattle.std.specs.Prelude.{Some};
-    ghost use Rattle.pcap_classic.specs.Messages.{header_message};
-
-    ghost output = { λ fault. Some (header_message fault) };
-
-    fn fmt<W: fmt::Write>(&self, f: &mut fmt::Formatter<W>) -> fmt::Result {
-        f.write_str(CaptureFault::from(*self).message())
-    }
-}
-
-impl Error for HeaderFault {}
 
 /// What the magic number of a file says.
 #[derive(Clone, Copy)]

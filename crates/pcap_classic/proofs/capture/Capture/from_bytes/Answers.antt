@@ -5,8 +5,7 @@ use Rattle.pcap_classic.proofs.capture.Capture.from_bytes.Goals as goal
 
 pub returns-in-Err-clause-refused : goal.returns-in-Err-clause-refused
 returns-in-Err-clause-refused g c =
-    rw c.from.ensures
-    (header-says c.args.bytes.items _ _ (rw c.as_slice.ensures.value at c.header_of.ensures) c.in-Err.is)
+    header-says c.args.bytes.items _ _ (rw c.as_slice.ensures.value at c.header_of.ensures) c.in-Err.is
 
 pub returns-in-Ok-index_of-clause-capture : goal.returns-in-Ok-index_of-clause-capture
 returns-in-Ok-index_of-clause-capture g c =
