@@ -1,5 +1,7 @@
 //! The boxes of a graph, which are a program's basic blocks, and the ways between them.
 
+#![tactic(auto, using(cbpf_code::proofs::WrittenLemmas::three, cbpf_code::proofs::WrittenLemmas::steps))]
+
 ghost use Rattle.std.specs.Prelude.{◌≡◌, ◌<◌, ◌≤◌, ◌+◌, ◌++◌, ◌-◌, ◌==◌, if◌then◌else◌, [], codes, length, slice_get};
 ghost use Rattle.cbpf_code.specs.Opcode.{op_of};
 ghost use Rattle.cbpf_code.specs.Writing.{Wrote};
@@ -37,7 +39,6 @@ fn write_label<W: Write>(w: &mut W, text: &[u8]) -> Result<(), WriteFault>
 }
 
 /// Writes a text that stands in a label, in grey.
-#[tactic(auto, using(cbpf_code::proofs::WrittenLemmas::three, cbpf_code::proofs::WrittenLemmas::steps))]
 fn write_grey<W: Write>(w: &mut W, text: &[u8]) -> Result<(), WriteFault>
     ensures { Wrote (W.contents w.old) (W.contents w.new) result (spec.grey_text text.now) }
 {
@@ -57,7 +58,6 @@ fn write_counted<W: Write>(w: &mut W, text: &[u8], count: u64) -> Result<(), Wri
 }
 
 /// Writes a line of a block, from the left, of an instruction that ran so often.
-#[tactic(auto, using(cbpf_code::proofs::WrittenLemmas::three, cbpf_code::proofs::WrittenLemmas::steps))]
 fn write_block_line<W: Write, P: Allocator>(
     w: &mut W,
     p: &Program<P>,
@@ -120,7 +120,6 @@ fn write_edge<W: Write>(
 }
 
 /// Writes both ways from a conditional jump.
-#[tactic(auto, using(cbpf_code::proofs::WrittenLemmas::three, cbpf_code::proofs::WrittenLemmas::steps))]
 fn write_both_edges<W: Write>(
     w: &mut W,
     block: u64,
@@ -139,7 +138,6 @@ fn write_both_edges<W: Write>(
 }
 
 /// Writes the ways from the last instruction of a block.
-#[tactic(auto, using(cbpf_code::proofs::WrittenLemmas::three, cbpf_code::proofs::WrittenLemmas::steps))]
 fn write_edges<W: Write>(
     w: &mut W,
     block: u64,
@@ -202,7 +200,6 @@ fn write_ways_out<W: Write, P: Allocator>(
 }
 
 /// Writes an instruction of a block, with what follows where it is the last one.
-#[tactic(auto, using(cbpf_code::proofs::WrittenLemmas::three, cbpf_code::proofs::WrittenLemmas::steps))]
 fn write_body<W: Write, P: Allocator>(
     w: &mut W,
     p: &Program<P>,
@@ -224,7 +221,6 @@ fn write_body<W: Write, P: Allocator>(
 }
 
 /// Writes what the graph has of an instruction of a block.
-#[tactic(auto, using(cbpf_code::proofs::WrittenLemmas::three, cbpf_code::proofs::WrittenLemmas::steps))]
 pub(crate) fn write_block_part<W: Write, P: Allocator>(
     w: &mut W,
     p: &Program<P>,

@@ -1,5 +1,7 @@
 //! The nodes of a graph for the packets that ended.
 
+#![tactic(auto, using(cbpf_code::proofs::WrittenLemmas::three, cbpf_code::proofs::WrittenLemmas::steps))]
+
 ghost use Rattle.std.specs.Prelude.{◌≡◌, ◌≤◌, ◌+◌, ◌++◌, length};
 ghost use Rattle.cbpf_code.specs.Writing.{Wrote};
 ghost use Rattle.cbpf_code.specs.declared.writing.TheConstants.{LINE_SIZE};
@@ -60,7 +62,6 @@ fn write_end_edge<W: Write>(
 }
 
 /// Writes the same of a group, where it has packets.
-#[tactic(auto, using(cbpf_code::proofs::WrittenLemmas::three, cbpf_code::proofs::WrittenLemmas::steps))]
 fn write_end<W: Write>(w: &mut W, block: u32, group: Group) -> Result<(), WriteFault>
     ensures { Wrote (W.contents w.old) (W.contents w.new) result (spec.group_end block group) }
 {
@@ -71,7 +72,6 @@ fn write_end<W: Write>(w: &mut W, block: u32, group: Group) -> Result<(), WriteF
 }
 
 /// Writes how packets ended at an instruction of this block.
-#[tactic(auto, using(cbpf_code::proofs::WrittenLemmas::three, cbpf_code::proofs::WrittenLemmas::steps))]
 pub(crate) fn write_ends_at<W: Write>(
     w: &mut W,
     block: u32,

@@ -48,7 +48,7 @@ fn with_comma(b: u8) -> u8
 
 /// Puts a comma for each newline of a text that has no comma.
 #[tactic(auto, using(std::proofs::lemmas::List::Edits::map_over_more))]
-fn prepend_commas(text: &mut [u8])
+fn put_commas(text: &mut [u8])
     ensures { text.new ≡ spec.word_text_of text.old }
 {
     if text.contains(&b',') {
@@ -91,7 +91,7 @@ fn list_of<A: Allocator + Copy>(alloc: A, text: Vec<u8, A>) -> Result<Vec<Insn, 
 {
     let mut text = text;
     if are_words(&text) {
-        prepend_commas(text.as_mut_slice());
+        put_commas(text.as_mut_slice());
         words_list(alloc, &text)
     } else {
         source_list(alloc, &text)

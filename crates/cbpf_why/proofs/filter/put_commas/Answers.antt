@@ -3,7 +3,7 @@ use Rattle.std.specs.Prelude.{slice_index_or}
 use Rattle.std.proofs.lemmas.List.Edits.{map_over_more}
 use Rattle.std.proofs.lemmas.Option.{slice_get-get_or, get_or_from_slice_get}
 use Rattle.cbpf_why.specs.Filters.{with_comma}
-use Rattle.cbpf_why.proofs.filter.prepend_commas.Goals as goal
+use Rattle.cbpf_why.proofs.filter.put_commas.Goals as goal
 
 pub loop-i-preserved : goal.loop-i-preserved
 loop-i-preserved c =
