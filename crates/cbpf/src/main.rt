@@ -4,7 +4,6 @@
 ghost use Rattle.std.specs.Prelude.{◌≡◌};
 ghost use Rattle.std.specs.Process.{exit_status};
 ghost use Rattle.cbpf_tool.specs.Hosted.{unknown};
-ghost use Rattle.cbpf_tool.specs.Requests.{HasSortedPackets};
 ghost use Rattle.cbpf_tool.specs.RunJob.{request_status};
 ghost use Rattle.cbpf.specs.declared.Source.TheVariants as source;
 
@@ -158,9 +157,7 @@ fn run<R: Input + Print + Eprint + Files + AllocGlobal, E: Print>(
     rt: &R,
     errors: &E,
     request: Request,
-) -> ExitCode
-    requires sorted { HasSortedPackets request }
-{
+) -> ExitCode {
     let done = run_request(rt.alloc(), &mut RealHost { rt }, request);
     end(rt, errors, &done)
 }

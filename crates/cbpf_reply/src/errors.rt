@@ -7,9 +7,8 @@ ghost use Rattle.cbpf_reply.specs.Errors as spec;
 
 use crate::reply::SessionFault;
 use cbpf_code::Message::{self, Number, Numbers, Text};
-use cbpf_code::{CheckFault, WordFault, WriteFault, write_parts};
+use cbpf_code::{WriteFault, write_parts};
 use itoa::Buffer;
-use pcap_classic::CaptureFault;
 use std::error::Error;
 use std::fmt;
 use std::io::Write;
@@ -91,7 +90,7 @@ impl SessionFault {
         ensures { message_text result ≡ spec.session_message self.now }
     {
         match *self {
-            SessionFault::NoProgram => NO_PROGRAM,
+            SessionFault::NoProgram => Text("S1 no program"),
             SessionFault::NoCapture => Text("S2 no capture"),
             SessionFault::NoPackets => Text("S3 capture has no packets"),
             SessionFault::NoInstruction => Text("S4 no such instruction"),
@@ -120,10 +119,8 @@ impl Error for SessionFault {}
 
 const OUT_OF_MEMORY: Message = Text("out of memory");
 
-const NO_PROGRAM: Message = Text("S1 no program");
-
-/// Writes the line of a message.
-fn write_error_line<W: Write>(w: &mut W, message: Message) -> Result<(), WriteFault>
+/// Writes the line of what a fault says.
+pub fn write_error<W: Write>(w: &mut W, message: Message) -> Result<(), WriteFault>
     ensures { Wrote (W.contents w.old) (W.contents w.new) result (spec.error_line (message_text message)) }
 {
     match message {
@@ -142,60 +139,4 @@ fn write_error_line<W: Write>(w: &mut W, message: Message) -> Result<(), WriteFa
             write_parts(w, &[b"error: ", before, m, between, n, after, b"\n"])
         }
     }
-}
-
-/// Writes that it is out of memory.
-pub fn write_out_of_memory<W: Write>(w: &mut W) -> Result<(), WriteFault>
-    ensures { Wrote (W.contents w.old) (W.contents w.new) result spec.memory_text }
-{
-    write_error_line(w, OUT_OF_MEMORY)
-}
-
-/// Writes S1: no program is loaded.
-pub fn write_no_program<W: Write>(w: &mut W) -> Result<(), WriteFault>
-    ensures { Wrote (W.contents w.old) (W.contents w.new) result spec.no_program_text }
-{
-    write_error_line(w, NO_PROGRAM)
-}
-
-/// Writes why a line is no command.
-pub fn write_command_fault<W: Write>(w: &mut W, fault: CommandFault) -> Result<(), WriteFault>
-    ensures { Wrote (W.contents w.old) (W.contents w.new) result (spec.command_fault_text fault) }
-{
-    write_error_line(w, fault.message())
-}
-
-/// Writes why a file was not loaded.
-pub fn write_load_fault<W: Write>(w: &mut W, fault: LoadFault) -> Result<(), WriteFault>
-    ensures { Wrote (W.contents w.old) (W.contents w.new) result (spec.load_fault_text fault) }
-{
-    write_error_line(w, fault.message())
-}
-
-/// Writes the line of a word text's refusal, with its number, or that it is out of memory.
-pub fn write_word_fault<W: Write>(w: &mut W, fault: WordFault) -> Result<(), WriteFault>
-    ensures { Wrote (W.contents w.old) (W.contents w.new) result (spec.word_fault_text fault) }
-{
-    write_error_line(w, fault.message())
-}
-
-/// Writes the line of the checker's refusal, with its number.
-pub fn write_check_fault<W: Write>(w: &mut W, fault: CheckFault) -> Result<(), WriteFault>
-    ensures { Wrote (W.contents w.old) (W.contents w.new) result (spec.check_fault_text fault) }
-{
-    write_error_line(w, fault.message())
-}
-
-/// Writes the line of a capture's refusal, with its number, or that it is out of memory.
-pub fn write_capture_fault<W: Write>(w: &mut W, fault: CaptureFault) -> Result<(), WriteFault>
-    ensures { Wrote (W.contents w.old) (W.contents w.new) result (spec.capture_fault_text fault) }
-{
-    write_error_line(w, Text(fault.message()))
-}
-
-/// Writes the line of a refusal, with its number, or that it is out of memory.
-pub fn write_session_fault<W: Write>(w: &mut W, fault: SessionFault) -> Result<(), WriteFault>
-    ensures { Wrote (W.contents w.old) (W.contents w.new) result (spec.session_fault_text fault) }
-{
-    write_error_line(w, fault.message())
 }

@@ -26,10 +26,7 @@ pub use cbpf_machine::When;
 pub use counts::{write_finished, write_limit, write_place, write_went_to};
 pub use dump::write_stop;
 pub use equality::equal_where_same;
-pub use errors::{
-    CommandFault, LoadFault, write_capture_fault, write_check_fault, write_command_fault,
-    write_load_fault, write_no_program, write_out_of_memory, write_session_fault, write_word_fault,
-};
+pub use errors::{CommandFault, LoadFault, write_error};
 pub use law::{place_order, row_length};
 pub use loads::{write_capture, write_cut, write_program};
 pub use record::packet_of;

@@ -10,7 +10,7 @@ use Rattle.std.proofs.lemmas.List.Sums.{fold-append}
 use Rattle.std.proofs.lemmas.List.Elements.{filter_map-append}
 use Rattle.cbpf_command_line.specs.CommandLine.{text_of}
 use Rattle.cbpf_why.specs.declared.chosen.PacketRange.{PacketRange}
-use Rattle.cbpf_machine.specs.Values.{Values, no_values}
+use Rattle.cbpf_dbg.specs.Values.{Values, no_values}
 use Rattle.std.specs.Prelude.{IsSorted, suc}
 use Rattle.std.proofs.Common.{Ordering, Less, Equal, Greater, add-one, is_lt, nat_cmp}
 use Rattle.std.specs.Ordering.{ordering_then}

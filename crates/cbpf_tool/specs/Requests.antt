@@ -11,8 +11,7 @@ use Rattle.cbpf_command_line.specs.RequestLine.{Requested, job, why, WhyAsked, r
 use Rattle.cbpf_command_line.specs.RequestLine.{or_else, word_faults}
 use Rattle.cbpf_command_line.specs.declared.request.Detail.{Detail}
 use Rattle.cbpf_command_line.specs.declared.request.Detail.TheVariants as detail
-use Rattle.cbpf_machine.specs.Values.{Values, no_values, with_value, takes_value}
-use Rattle.cbpf_why.specs.Chosen.{AreSorted}
+use Rattle.cbpf_dbg.specs.Values.{Values, no_values, with_value, takes_value}
 use Rattle.cbpf_why.specs.declared.chosen.PacketRange.{PacketRange}
 use Rattle.cbpf_why.specs.declared.report.Report.{Report}
 use Rattle.cbpf_why.specs.declared.report.Report.TheVariants as report
@@ -124,12 +123,11 @@ report_by None false = report.Summary
 
 -- this job is what the words of `why` ask for
 pub record IsWhyJob (asked : WhyAsked) (j : WhyJob) : Type 0 where
-  pub report : j.report ≡ report_by asked.detail (nat_lt 0 (length asked.packets))
-  pub values : j.values ≡ values_by asked.values
+  pub report : j.asked.report ≡ report_by asked.detail (nat_lt 0 (length asked.packets))
+  pub values : j.asked.values ≡ values_by asked.values
   pub filter : string_bytes j.filter ≡ asked.filter
   pub capture : option_map (λ name. string_bytes name) j.capture ≡ asked.capture
-  pub packets : IsPermutation (filter_map packet_range asked.packets) j.packets.items
-  pub sorted : AreSorted j.packets.items
+  pub packets : IsPermutation (filter_map packet_range asked.packets) j.asked.packets.items
 
 -- a request is what the words ask for
 abbrev pub IsRequest : Requested → Request → Type 0
@@ -141,8 +139,3 @@ IsRequest _ _ = ⊥
 abbrev pub IsJobRequest : List (List ℕ) → Request → Type 0
 IsJobRequest words (request.Job j) = meaning j ≡ asked_for words
 IsJobRequest words (request.Why j) = ⊥
-
--- the packets of `why` are sorted
-abbrev pub HasSortedPackets : Request → Type 0
-HasSortedPackets (request.Job j) = Unit {0}
-HasSortedPackets (request.Why j) = AreSorted j.packets.items

@@ -21,11 +21,6 @@ JobDone old new (Asm form file) r = AsmDone old new form (option_map (λ n. stri
 JobDone old new (Dbg input output) r =
     DbgDone old new (option_map (λ n. string_bytes n) input) (option_map (λ n. string_bytes n) output) r
 
--- the exit status after a job
-abbrev pub status : Result (Unit {0}) Failure → ℕ
-status (Ok x) = 0
-status (Err e) = 1
-
 -- the result of the program's two jobs as that of a request
 abbrev pub as_request : Result (Unit {0}) Failure → Result (Option Remarks) WhyFailure
 as_request (Ok x) = Ok None

@@ -1,7 +1,7 @@
 -- What `cbpf why` counts of a capture is what the debugger's `run` counts of it (this project's own).
 use Rattle.std.specs.Prelude.{◌≡◌, ◌+◌, List, length}
 use Rattle.cbpf_dbg.specs.Joined.{counts}
-use Rattle.cbpf_machine.specs.Machine.{Machine}
+use Rattle.cbpf_dbg.specs.Machine.{Machine}
 use Rattle.cbpf_why.specs.Ends.{ends_of}
 use Rattle.cbpf_why.specs.Groups.{totals}
 use Rattle.pcap_classic.specs.Records.{Record}

@@ -5,8 +5,8 @@ use Rattle.std.specs.Prelude.{MatchResult, bytes_eq, codes, string_bytes}
 use Rattle.std.specs.Option.{option_map, option_and_then}
 use Rattle.std.specs.FinMap as map
 use Rattle.cbpf_code.specs.declared.insn.Insn.{Insn}
-use Rattle.cbpf_machine.specs.Machine.{Machine, machine_of}
-use Rattle.pcap_classic.specs.Savefile.{Savefile, IsSavefile, IsRefusal, capture_fault}
+use Rattle.cbpf_dbg.specs.Machine.{Machine, machine_of}
+use Rattle.pcap_classic.specs.Savefile.{Savefile, IsSavefile, IsHeaderRefusal}
 use Rattle.pcap_classic.specs.declared.header.HeaderFault.{HeaderFault}
 use Rattle.pcap_classic.specs.declared.reading.OpenFault.{OpenFault}
 use Rattle.pcap_classic.specs.declared.reading.OpenFault.TheVariants as open_fault
@@ -24,8 +24,8 @@ use Rattle.cbpf_tool.specs.declared.failure.Failure.TheVariants.{Tool, CannotOpe
 use Rattle.cbpf_tool.specs.declared.fault.ToolFault.{ToolFault}
 use Rattle.cbpf_tool.specs.declared.fault.ToolFault.TheVariants.{Read, Write, Memory}
 use Rattle.cbpf_tool.specs.Remarks.{AreRemarks}
-use Rattle.cbpf_tool.specs.declared.remarks.ReportAsked.{ReportAsked}
 use Rattle.cbpf_tool.specs.declared.remarks.Remarks.{Remarks}
+use Rattle.cbpf_tool.specs.declared.report_asked.ReportAsked.{ReportAsked}
 use Rattle.cbpf_tool.specs.declared.request.WhyJob.{WhyJob}
 use Rattle.cbpf_tool.specs.declared.why_failure.WhyFailure.{WhyFailure}
 use Rattle.cbpf_tool.specs.declared.why_failure.WhyFailure.TheVariants as failure
@@ -98,6 +98,7 @@ pub record Query : Type 0 where
   pub ranges : List PacketRange
   pub machine : Machine
 
+-- the same of a program and a report that is asked for
 abbrev pub query_of : List Insn → ReportAsked → Query
 query_of p a = record { report = a.report; ranges = a.packets.items; machine = machine_of p a.values }
 
@@ -129,7 +130,7 @@ pub data ReportsOn (old new : Hosted) (q : Query) (name : Option (List ℕ)) (by
     (r : Result (Option Remarks) WhyFailure) : Type 0 where
   unread : (e : WhyFailure) → new ≡ old → IsReadFailure name e ⊎ (e ≡ failed Memory) → r ≡ Err e
       → ReportsOn old new q name bytes r
-  no_capture : (fault : HeaderFault) (e : WhyFailure) → new ≡ old → IsRefusal (capture_fault fault) bytes
+  no_capture : (fault : HeaderFault) (e : WhyFailure) → new ≡ old → IsHeaderRefusal fault bytes
       → IsHeaderFailure name fault e → r ≡ Err e → ReportsOn old new q name bytes r
   a_capture : (c : Savefile) → IsSavefile bytes c → PrintsReport old new q name c r → ReportsOn old new q name bytes r
 
@@ -153,7 +154,5 @@ pub record WhyDone (old new : Hosted) (job : WhyJob) (r : Result (Option Remarks
   pub filter : Result (List Insn) WhyFailure
   pub opens : OpensFilter old mid (string_bytes job.filter) filter
   pub goes : MatchResult filter
-      (λ p. ReportsBy mid new
-      (record { report = job.report; ranges = job.packets.items; machine = machine_of p job.values })
-      (file_name (option_map (λ n. string_bytes n) job.capture)) r)
+      (λ p. ReportsBy mid new (query_of p job.asked) (file_name (option_map (λ n. string_bytes n) job.capture)) r)
       (λ e. (new ≡ mid) × (r ≡ Err e))

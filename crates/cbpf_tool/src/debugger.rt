@@ -15,7 +15,7 @@ use crate::loads::{load_capture, load_words};
 use crate::reply_to::{ScriptSession, reply_to};
 use cbpf_code::WriteFault;
 use cbpf_dbg::{MarkTrail, Session};
-use cbpf_reply::{CommandFault, write_command_fault};
+use cbpf_reply::{CommandFault, write_error};
 use std::alloc::Allocator;
 use std::io::{Read, Write};
 
@@ -62,7 +62,7 @@ fn run_line<A: Allocator + Copy, W: Write, F: Files>(
         Ok(None) => Ok(AfterLine::NextLine),
         Ok(Some(command)) => act(alloc, w, session, files, command),
         Err(fault) => {
-            write_command_fault(w, fault)?;
+            write_error(w, fault.message())?;
             Ok(AfterLine::NextLine)
         }
     }

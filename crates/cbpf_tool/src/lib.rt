@@ -24,6 +24,7 @@ mod memory_files;
 mod number;
 mod remarks;
 mod reply_to;
+mod report_asked;
 mod request;
 mod run_job;
 mod why_failure;
@@ -44,8 +45,9 @@ pub use host::{CreateFault, Host};
 pub use law::{one_output, same_totals};
 pub use memory_files::MemoryFiles;
 pub use remarks::{Remarks, write_remarks};
+pub use report_asked::ReportAsked;
 pub use request::{Request, WhyJob, read_request};
-pub use run_job::{request_status, run_on, run_request, status_of};
+pub use run_job::{request_status, run_request};
 pub use why_failure::WhyFailure;
 pub use why_on_host::why_job;
 

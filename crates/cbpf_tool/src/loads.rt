@@ -7,11 +7,8 @@ ghost use Rattle.cbpf_tool.specs.declared.command.Command.TheVariants.{LoadWords
 
 use crate::files::Files;
 use crate::reply_to::ScriptSession;
-use cbpf_code::{WriteFault, check, read_words};
-use cbpf_reply::{
-    write_capture, write_capture_fault, write_check_fault, write_load_fault, write_program,
-    write_word_fault,
-};
+use cbpf_code::{Message, WriteFault, check, read_words};
+use cbpf_reply::{write_capture, write_error, write_program};
 use pcap_classic::Capture;
 use std::alloc::Allocator;
 use std::io::Write;
@@ -28,7 +25,7 @@ pub(crate) fn load_words<A: Allocator, W: Write>(
 {
     let list = match read_words(alloc, text) {
         Ok(list) => list,
-        Err(fault) => return write_word_fault(w, fault),
+        Err(fault) => return write_error(w, fault.message()),
     };
     match check(list) {
         Ok(program) => {
@@ -36,7 +33,7 @@ pub(crate) fn load_words<A: Allocator, W: Write>(
             session.load_program(program);
             write_program(w, count)
         }
-        Err((fault, _)) => write_check_fault(w, fault),
+        Err((fault, _)) => write_error(w, fault.message()),
     }
 }
 
@@ -53,7 +50,7 @@ pub(crate) fn load_capture<A: Allocator + Copy, W: Write, F: Files>(
 {
     let bytes = match files.load(alloc, name) {
         Ok(bytes) => bytes,
-        Err(fault) => return write_load_fault(w, fault),
+        Err(fault) => return write_error(w, fault.message()),
     };
     match Capture::from_bytes(alloc, bytes) {
         Ok(capture) => {
@@ -61,6 +58,6 @@ pub(crate) fn load_capture<A: Allocator + Copy, W: Write, F: Files>(
             session.load_capture(capture);
             written
         }
-        Err((fault, _)) => write_capture_fault(w, fault),
+        Err((fault, _)) => write_error(w, Message::Text(fault.message())),
     }
 }

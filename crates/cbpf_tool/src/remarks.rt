@@ -7,21 +7,12 @@ ghost use Rattle.cbpf_code.specs.Writing.{Wrote};
 ghost use Rattle.cbpf_why.specs.Chosen.{beyond};
 ghost use Rattle.cbpf_tool.specs.Remarks as spec;
 
+use crate::report_asked::ReportAsked;
 use cbpf_code::{Line, WriteFault, write_bytes, write_parts};
-use cbpf_machine::Values;
 use cbpf_reply::write_cut;
 use cbpf_why::{CaptureEnd, PacketRange, Report};
 use pcap_classic::Ending;
 use std::io::Write;
-
-/// Which report is asked for, with which values of extensions, and on which packets.
-#[derive(Debug, Drop)]
-pub(crate) struct ReportAsked {
-    pub(crate) report: Report,
-    pub(crate) values: Values,
-    /// Which packets are looked at, sorted; where the list is empty, it is all.
-    pub(crate) packets: Vec<PacketRange>,
-}
 
 /// What is to be said of a report that is whole, where the capture's end was read.
 #[derive(Debug, Drop)]

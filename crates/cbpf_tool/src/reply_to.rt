@@ -17,8 +17,8 @@ use crate::command::SessionCommand;
 use cbpf_code::{Ext, WriteFault};
 use cbpf_dbg::{MarkTrail, Meter, Place, RunReply, Session, Stops, When};
 use cbpf_reply::{
-    write_breakpoint, write_c_dump, write_finished, write_limit, write_list_end, write_list_head,
-    write_listed, write_no_program, write_place, write_session_fault, write_stop_line, write_total,
+    SessionFault, write_breakpoint, write_c_dump, write_error, write_finished, write_limit,
+    write_list_end, write_list_head, write_listed, write_place, write_stop_line, write_total,
     write_value, write_went_to,
 };
 use cbpf_text::write_listing;
@@ -64,7 +64,7 @@ fn run<A: Allocator, W: Write>(
     let mut meter = Meter::new();
     match session.run(&mut meter, limit) {
         Ok(reply) => write_run(w, session, reply),
-        Err(fault) => write_session_fault(w, fault),
+        Err(fault) => write_error(w, fault.message()),
     }
 }
 
@@ -80,7 +80,7 @@ fn step<A: Allocator, W: Write>(
     let mut meter = Meter::new();
     match session.step(&mut meter, n) {
         Ok(reply) => write_run(w, session, reply),
-        Err(fault) => write_session_fault(w, fault),
+        Err(fault) => write_error(w, fault.message()),
     }
 }
 
@@ -95,7 +95,7 @@ fn select<A: Allocator, W: Write>(
 {
     match session.select(n) {
         Ok(()) => write_went_to(w, Place { packet: n, step: 0 }),
-        Err(fault) => write_session_fault(w, fault),
+        Err(fault) => write_error(w, fault.message()),
     }
 }
 
@@ -111,7 +111,7 @@ fn resume<A: Allocator, W: Write>(
     let mut meter = Meter::new();
     match session.resume(&mut meter, place) {
         Ok(()) => write_went_to(w, place),
-        Err(fault) => write_session_fault(w, fault),
+        Err(fault) => write_error(w, fault.message()),
     }
 }
 
@@ -146,7 +146,7 @@ fn set_breakpoint<A: Allocator + Copy, W: Write>(
 {
     match session.breakpoint_when(n, when) {
         Ok(()) => write_set(w, session, n, when),
-        Err(fault) => write_session_fault(w, fault),
+        Err(fault) => write_error(w, fault.message()),
     }
 }
 
@@ -173,7 +173,7 @@ fn delete<A: Allocator, W: Write>(
 {
     match session.delete(n) {
         Ok(_) => write_breakpoints(w, session),
-        Err(fault) => write_session_fault(w, fault),
+        Err(fault) => write_error(w, fault.message()),
     }
 }
 
@@ -189,7 +189,7 @@ fn set_value<A: Allocator, W: Write>(
 {
     match session.set_value(e, n) {
         Ok(()) => write_value(w, e, n),
-        Err(fault) => write_session_fault(w, fault),
+        Err(fault) => write_error(w, fault.message()),
     }
 }
 
@@ -200,7 +200,7 @@ fn mark<A: Allocator, W: Write>(w: &mut W, session: &ScriptSession<A>) -> Result
 {
     match session.mark() {
         Ok(place) => write_place(w, place),
-        Err(fault) => write_session_fault(w, fault),
+        Err(fault) => write_error(w, fault.message()),
     }
 }
 
@@ -211,7 +211,7 @@ fn stops<A: Allocator, W: Write>(w: &mut W, session: &ScriptSession<A>) -> Resul
 {
     match session.stops() {
         Ok(stops) => write_stops(w, stops),
-        Err(fault) => write_session_fault(w, fault),
+        Err(fault) => write_error(w, fault.message()),
     }
 }
 
@@ -226,7 +226,7 @@ fn disassemble<A: Allocator, W: Write>(
 {
     match session.program() {
         Some(program) => write_listing(w, program),
-        None => write_no_program(w),
+        None => write_error(w, SessionFault::NoProgram.message()),
     }
 }
 
@@ -238,7 +238,7 @@ fn dump<A: Allocator, W: Write>(w: &mut W, session: &ScriptSession<A>) -> Result
 {
     match session.program() {
         Some(program) => write_c_dump(w, program.as_slice()),
-        None => write_no_program(w),
+        None => write_error(w, SessionFault::NoProgram.message()),
     }
 }
 

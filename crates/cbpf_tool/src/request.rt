@@ -8,26 +8,23 @@ ghost use Rattle.cbpf_why.specs.Chosen.{AreSorted};
 ghost use Rattle.cbpf_tool.specs.Requests as spec;
 
 use crate::number::{number_32, number_up_to};
+use crate::report_asked::ReportAsked;
 use cbpf_code::{Ext, ext_named};
 use cbpf_command_line::{
     Detail, Job, LineFault, RequestWords, WhyWords, refused_word, request_line,
 };
-use cbpf_machine::Values;
+use cbpf_dbg::Values;
 use cbpf_why::{PacketRange, Report};
 use std::alloc::{AllocError, Global};
 
-/// `why`: which report of a filter on a capture.
+/// `why`: a report of a filter on a capture.
 #[derive(Debug, Drop)]
 pub struct WhyJob {
-    pub report: Report,
-    /// The values of extensions.
-    pub values: Values,
     /// The name of the filter's file.
     pub filter: String,
     /// The name of the capture; without one, or with `-`, it is the standard input.
     pub capture: Option<String>,
-    /// Which packets are looked at, sorted; where the list is empty, it is all.
-    pub packets: Vec<PacketRange>,
+    pub asked: ReportAsked,
 }
 
 /// What a command line asks for.
@@ -233,12 +230,15 @@ fn why_of(alloc: Global, words: WhyWords) -> Result<WhyJob, LineFault>
 {
     let values = values_asked(alloc, &words.values)?;
     let packets = ranges_asked(alloc, &words.packets)?;
+    let report = report_of(words.detail, !words.packets.is_empty());
     Ok(WhyJob {
-        report: report_of(words.detail, !words.packets.is_empty()),
-        values,
         filter: words.filter,
         capture: words.capture,
-        packets,
+        asked: ReportAsked {
+            report,
+            values,
+            packets,
+        },
     })
 }
 
@@ -253,7 +253,6 @@ fn why_of(alloc: Global, words: WhyWords) -> Result<WhyJob, LineFault>
 #[tactic(auto, using(crate::proofs::RequestLemmas::lines))]
 pub fn read_request(alloc: Global, words: Vec<String>) -> Result<Request, LineFault>
     ensures request { IfOk result (spec.IsRequest (requested_for (map text_of words.items))) }
-    ensures sorted { IfOk result spec.HasSortedPackets }
     ensures taken { OnOk result (spec.line_faults (map text_of words.items) ≡ []) }
     ensures refused { IfErr result (IsFaultOf (spec.line_faults (map text_of words.items))) }
     ensures before { names_why (map text_of words.items) ≡ false → MatchResult result

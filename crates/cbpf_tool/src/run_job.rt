@@ -3,7 +3,6 @@
 ghost use Rattle.std.specs.Prelude.{◌≡◌};
 ghost use Rattle.cbpf_tool.specs.Hosted.{IsReady};
 ghost use Rattle.std.specs.Process.{exit_status};
-ghost use Rattle.cbpf_tool.specs.Requests.{HasSortedPackets};
 ghost use Rattle.cbpf_tool.specs.RunJob as spec;
 
 use crate::asm_on_host::asm_job;
@@ -18,23 +17,13 @@ use cbpf_command_line::Job;
 use std::alloc::Allocator;
 use std::process::ExitCode;
 
-/// Runs a job on a machine.
-pub fn run_on<A: Allocator, H: Host>(alloc: A, host: &mut H, job: Job) -> Result<(), Failure>
+/// Runs one of the program's two jobs on a machine.
+fn run_on<A: Allocator, H: Host>(alloc: A, host: &mut H, job: Job) -> Result<(), Failure>
     ensures { IsReady (H.view host.old) → spec.JobDone (H.view host.old) (H.view host.new) job result }
 {
     match job {
         Job::Asm { form, file } => asm_job(alloc, host, form, file),
         Job::Dbg { input, output } => dbg_job(alloc, host, input, output),
-    }
-}
-
-/// The status with which the program ends.
-pub fn status_of(done: &Result<(), Failure>) -> ExitCode
-    ensures { exit_status result ≡ spec.status done.now }
-{
-    match done {
-        Ok(_) => ExitCode::SUCCESS,
-        Err(_) => ExitCode::FAILURE,
     }
 }
 
@@ -55,7 +44,6 @@ pub fn run_request<A: Allocator + Copy, H: Host>(
     host: &mut H,
     request: Request,
 ) -> Result<Option<Remarks>, WhyFailure>
-    requires sorted { HasSortedPackets request }
     ensures { IsReady (H.view host.old) → spec.RequestDone (H.view host.old) (H.view host.new) request result }
 {
     match request {

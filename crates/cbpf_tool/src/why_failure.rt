@@ -6,7 +6,8 @@ ghost use Rattle.cbpf_tool.specs.WhyJobs as spec;
 
 use crate::failure::Failure;
 use crate::fault::ToolFault;
-use crate::remarks::{Remarks, ReportAsked, remarks_of};
+use crate::remarks::{Remarks, remarks_of};
+use crate::report_asked::ReportAsked;
 use cbpf_why::{CaptureEnd, FilterFault, WhyFault};
 use pcap_classic::HeaderFault;
 use thiserror::Error;

@@ -3,7 +3,6 @@
 ghost use Rattle.std.specs.Prelude.{◌≡◌, ℕ, List, Some, None, IsTrue, string_bytes};
 ghost use Rattle.std.specs.Option.{option_map};
 ghost use Rattle.pcap_classic.specs.Savefile.{Savefile};
-ghost use Rattle.cbpf_why.specs.Chosen.{AreSorted};
 ghost use Rattle.cbpf_tool.specs.Hosted.{IsReady};
 ghost use Rattle.cbpf_tool.specs.WhyJobs as spec;
 
@@ -11,7 +10,8 @@ use crate::assembler::read_source;
 use crate::failure::Failure;
 use crate::fault::ToolFault;
 use crate::host::Host;
-use crate::remarks::{Remarks, ReportAsked};
+use crate::remarks::Remarks;
+use crate::report_asked::ReportAsked;
 use crate::request::WhyJob;
 use crate::why_failure::{WhyFailure, failed, read_failure, reported};
 use cbpf_code::Program;
@@ -82,7 +82,6 @@ fn print_report<A: Allocator + Copy, P: Allocator, H: Host, R: Read>(
     name: Option<String>,
 ) -> Result<Option<Remarks>, WhyFailure>
     requires count { reader.old.count ≡ 0 }
-    requires sorted { AreSorted asked.packets.items }
     ensures { IsReady (H.view host.old) → (c : Savefile) → reader.old.left ≡ Some c →
         spec.PrintsReport (H.view host.old) (H.view host.new) (spec.query_of program.now asked)
         (option_map (λ n. string_bytes n) name) c result }
@@ -110,7 +109,6 @@ fn report_on<A: Allocator + Copy, P: Allocator, H: Host, R: Read + Drop>(
     reader: R,
     name: Option<String>,
 ) -> Result<Option<Remarks>, WhyFailure>
-    requires sorted { AreSorted asked.packets.items }
     ensures { IsReady (H.view host.old) → (bytes : List ℕ) → R.remaining reader ≡ Some bytes →
         spec.ReportsOn (H.view host.old) (H.view host.new) (spec.query_of program.now asked)
         (option_map (λ n. string_bytes n) name) bytes result }
@@ -131,7 +129,6 @@ fn report_on_input<A: Allocator + Copy, P: Allocator, H: Host>(
     program: &Program<P>,
     asked: ReportAsked,
 ) -> Result<Option<Remarks>, WhyFailure>
-    requires sorted { AreSorted asked.packets.items }
     ensures { IsReady (H.view host.old) →
         spec.ReportsBy (H.view host.old) (H.view host.new) (spec.query_of program.now asked) None result }
 {
@@ -147,7 +144,6 @@ fn report_on_file<A: Allocator + Copy, P: Allocator, H: Host>(
     asked: ReportAsked,
     name: String,
 ) -> Result<Option<Remarks>, WhyFailure>
-    requires sorted { AreSorted asked.packets.items }
     ensures { IsReady (H.view host.old) → spec.ReportsBy (H.view host.old) (H.view host.new)
         (spec.query_of program.now asked) (Some (string_bytes name)) result }
 {
@@ -178,7 +174,6 @@ fn report_by_name<A: Allocator + Copy, P: Allocator, H: Host>(
     asked: ReportAsked,
     capture: Option<String>,
 ) -> Result<Option<Remarks>, WhyFailure>
-    requires sorted { AreSorted asked.packets.items }
     ensures { IsReady (H.view host.old) → spec.ReportsBy (H.view host.old) (H.view host.new)
         (spec.query_of program.now asked) (spec.file_name (option_map (λ n. string_bytes n) capture)) result }
 {
@@ -189,8 +184,8 @@ fn report_by_name<A: Allocator + Copy, P: Allocator, H: Host>(
 }
 
 /// `why`: reports on a filter and a capture to the standard output. The filter's file is opened and read first, and
-/// nothing is printed before the capture's header was read. The packets of the job are sorted. The answer is what is to be
-/// said of the report, where the capture's end was read.
+/// nothing is printed before the capture's header was read. The answer is what is to be said of the report, where the
+/// capture's end was read.
 ///
 /// # Errors
 ///
@@ -202,21 +197,8 @@ pub fn why_job<A: Allocator + Copy, H: Host>(
     host: &mut H,
     job: WhyJob,
 ) -> Result<Option<Remarks>, WhyFailure>
-    requires sorted { AreSorted job.packets.items }
     ensures { IsReady (H.view host.old) → spec.WhyDone (H.view host.old) (H.view host.new) job result }
 {
-    let WhyJob {
-        report,
-        values,
-        filter,
-        capture,
-        packets,
-    } = job;
-    let program = open_filter(alloc, host, filter)?;
-    let asked = ReportAsked {
-        report,
-        values,
-        packets,
-    };
-    report_by_name(alloc, host, &program, asked, capture)
+    let program = open_filter(alloc, host, job.filter)?;
+    report_by_name(alloc, host, &program, job.asked, job.capture)
 }

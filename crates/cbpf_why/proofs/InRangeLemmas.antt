@@ -3,7 +3,7 @@ use Rattle.std.proofs.Common.{◌≡◌, ℕ, ◌+◌, List, [], ◌∷◌, ◌+
 use Rattle.std.specs.Prelude.{true, Option, Some, None, Result, Ok, Err, MatchResult, nat_le, IfSome}
 use Rattle.pcap_classic.specs.Savefile.{Savefile}
 use Rattle.cbpf_why.specs.declared.counted.Counted.{Counted}
-use Rattle.cbpf_why.specs.declared.job.Question.{Question}
+use Rattle.cbpf_why.specs.declared.question.Question.{Question}
 use Rattle.std.proofs.lemmas.List.Sums.{length-filter, count_by-le-length}
 use Rattle.std.proofs.lemmas.Grind.{flat_map-append}
 use Rattle.cbpf_code.proofs.WrittenLemmas.{appended-then, part-then}

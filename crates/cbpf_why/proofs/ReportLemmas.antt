@@ -19,7 +19,7 @@ use Rattle.cbpf_why.specs.Question.{machine_in}
 use Rattle.cbpf_why.specs.Reports.{Reported, WroteFront, capture_end, closing_text, end_after, end_read, goes_to_end, packet_text, packets_text, report_text, shown_end}
 use Rattle.cbpf_why.specs.declared.chosen.PacketRange.{PacketRange}
 use Rattle.cbpf_why.specs.declared.counted.Counted.{Counted}
-use Rattle.cbpf_why.specs.declared.job.Question.{Question}
+use Rattle.cbpf_why.specs.declared.question.Question.{Question}
 use Rattle.cbpf_why.specs.declared.job.CaptureEnd.{CaptureEnd}
 use Rattle.cbpf_why.specs.declared.job.WhyFault.{WhyFault}
 use Rattle.cbpf_why.specs.declared.job.WhyFault.TheVariants as why

@@ -1,6 +1,7 @@
 -- Which packets of a capture are looked at (this project's own; packets are numbered from 1, as `tcpdump -#` does).
 use Rattle.std.specs.Prelude.{ℕ, ◌+◌, ◌≤◌, Bool, true, ◌&&◌, nat_le, nat_lt, List, [], ◌∷◌, filter, Option, Some, None}
 use Rattle.std.specs.Prelude.{if◌then◌else◌}
+use Rattle.std.proofs.Props.{props}
 use Rattle.std.specs.List.{All, list_any}
 use Rattle.pcap_classic.specs.Records.{Record}
 use Rattle.cbpf_why.specs.declared.chosen.PacketRange.{PacketRange}
@@ -28,3 +29,8 @@ chosen ranges records = filter (λ r. is_chosen ranges r.number) records
 abbrev pub AreSorted : List PacketRange → Type 0
 AreSorted [] = Unit {0}
 AreSorted (range ∷ ranges) = All (λ r. range.first ≤ r.first) ranges × AreSorted ranges
+
+-- this is a fact, so a type may have it as an invariant
+pub sorted_is_a_fact : (ranges : List PacketRange) → IsProp (AreSorted ranges)
+sorted_is_a_fact [] = hlevel props
+sorted_is_a_fact (range ∷ ranges) = let rest = sorted_is_a_fact ranges in hlevel (props, rest)

@@ -9,7 +9,7 @@ use Rattle.pcap_classic.specs.Savefile.{Savefile}
 use Rattle.cbpf_why.specs.declared.chosen.PacketRange.{PacketRange}
 use Rattle.cbpf_why.specs.declared.counted.Counted.{Counted}
 use Rattle.cbpf_why.specs.declared.ended.Decided.{Decided}
-use Rattle.cbpf_why.specs.declared.job.Question.{Question}
+use Rattle.cbpf_why.specs.declared.question.Question.{Question}
 use Rattle.cbpf_why.specs.declared.report.Report.{Report}
 use Rattle.cbpf_why.specs.declared.report.Report.TheVariants.{Summary, Ways, Packets, Coverage, Graph}
 use Rattle.cbpf_why.specs.Chosen.{chosen}

@@ -1,6 +1,6 @@
 -- The machine of a question (this project's own).
 use Rattle.cbpf_machine.specs.Machine.{Machine, machine_of}
-use Rattle.cbpf_why.specs.declared.job.Question.{Question}
+use Rattle.cbpf_why.specs.declared.question.Question.{Question}
 
 -- the program of a question, with its values for extensions
 abbrev pub machine_in : {P : Type 0} → Question P → Machine

@@ -12,7 +12,7 @@ ghost use Rattle.cbpf_why.specs.declared.report.Report.TheVariants.{Summary};
 
 use crate::ended::{Decided, Ended};
 use crate::groups::Groups;
-use crate::job::Question;
+use crate::question::Question;
 use cbpf_code::Program;
 use cbpf_machine::{Meter, Tally, Task, decided_end};
 use cbpf_reply::packet_of;

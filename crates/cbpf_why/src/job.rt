@@ -5,7 +5,6 @@ ghost use Rattle.std.specs.Option.{option_map, option_map_or};
 ghost use Rattle.cbpf_code.specs.Writing.{Wrote};
 ghost use Rattle.cbpf_reply.specs.Counts.{finished_text};
 ghost use Rattle.pcap_classic.specs.Records.{AreNumbered, Record};
-ghost use Rattle.cbpf_why.specs.Chosen.{AreSorted};
 ghost use Rattle.cbpf_why.specs.Coverage.{coverage_text};
 ghost use Rattle.cbpf_why.specs.Ends.{alone_of};
 ghost use Rattle.cbpf_why.specs.Graph.{graph_text};
@@ -22,25 +21,15 @@ use crate::counted::Counted;
 use crate::coverage::write_coverage;
 use crate::graph::{CountedProgram, write_graph};
 use crate::groups::{Groups, write_groups};
+use crate::question::Question;
 use crate::report::Report;
 use crate::taking::take_packets;
 use cbpf_code::{Program, WriteFault};
-use cbpf_machine::Values;
 use cbpf_reply::{write_cut, write_finished};
 use pcap_classic::{CaptureReader, Ending};
 use std::alloc::Allocator;
 use std::io::{Read, Write};
 use thiserror::Error;
-
-/// A program with values for extensions, and what is to be reported of it.
-#[derive(Drop)]
-pub struct Question<'a, P: Allocator> {
-    pub program: &'a Program<P>,
-    pub values: &'a Values,
-    pub report: Report,
-    /// Which packets are looked at, where the list isn't empty; else it is all.
-    pub packets: &'a [PacketRange],
-}
 
 /// Why a report ended before its end.
 #[derive(Clone, Copy, Debug, PartialEq, Eq, Error)]
@@ -192,10 +181,10 @@ fn end_read<R: Read, A: Allocator>(
 /// Writes what is to be reported of a program on a capture, of which no record was read yet. The answer is how the
 /// capture ends, where its end was read.
 ///
-/// The ranges of packets are sorted. Of a packet whose number stands in none nothing is reported. No packet is read
-/// after the greatest last number of the ranges. So the capture's end is read where all packets are looked at, or where a
-/// range ends beyond it. [`PacketRange::beyond`] says which numbers of a range the capture lacks. What is reported packet
-/// by packet is flushed before a read that may wait.
+/// Of a packet whose number stands in no range nothing is reported. No packet is read after the greatest last number of
+/// the ranges. So the capture's end is read where all packets are looked at, or where a range ends beyond it.
+/// [`PacketRange::beyond`] says which numbers of a range the capture lacks. What is reported packet by packet is flushed
+/// before a read that may wait.
 ///
 /// The totals count the outcomes of the packets, as [`crate::totals_of_outcomes`] says. The debugger's `run` counts the
 /// same, as `same_totals` of cbpf_tool says.
@@ -212,7 +201,6 @@ pub fn why<P: Allocator, A: Allocator + Copy, R: Read, B: Allocator, W: Write>(
     w: &mut W,
 ) -> Result<Option<CaptureEnd>, WhyFault>
     requires count { reader.old.count ≡ 0 }
-    requires sorted { AreSorted question.now.packets.now }
     ensures { IfSome reader.old.left (λ c. reports.Reported question.now.report question.now.packets.now
         (machine_in question.now) c reader.new.count (W.contents w.old) (W.contents w.new) result) }
 {

@@ -5,7 +5,6 @@ ghost use Rattle.std.specs.Io.KnownBytes.{Keeps as KeepsBytes};
 ghost use Rattle.cbpf_code.specs.Writing.{Wrote};
 ghost use Rattle.pcap_classic.specs.Lent.{record_of};
 ghost use Rattle.pcap_classic.specs.Records.{Record};
-ghost use Rattle.cbpf_why.specs.Chosen.{AreSorted};
 ghost use Rattle.cbpf_why.specs.Ends.{decided};
 ghost use Rattle.cbpf_why.specs.Job as spec;
 ghost use Rattle.cbpf_why.specs.Question.{machine_in};
@@ -16,8 +15,9 @@ ghost use Rattle.cbpf_why.specs.declared.report.Report.TheVariants.{Summary};
 
 use crate::chosen::PacketRange;
 use crate::counted::{Counted, add_counted, add_ended, end_of};
-use crate::job::{Question, WhyFault};
+use crate::job::WhyFault;
 use crate::packets::write_packet_line;
+use crate::question::Question;
 use crate::report::Report;
 use crate::ways::write_way;
 use cbpf_code::WriteFault;
@@ -235,7 +235,6 @@ fn take_ranges<P: Allocator, A: Allocator + Copy, R: Read, B: Allocator, W: Writ
 ) -> Result<bool, WhyFault>
     requires count { reader.old.count ≡ 0 }
     requires took { spec.Took question.now counted.old [] }
-    requires sorted { AreSorted question.now.packets.now }
     requires some { 0 < length question.now.packets.now }
     ensures { MatchResult result
         (λ is_over. spec.Went question.now reader.old reader.new counted.new (W.contents w.old) (W.contents w.new)
@@ -286,7 +285,6 @@ pub(crate) fn take_packets<P: Allocator, A: Allocator + Copy, R: Read, B: Alloca
 ) -> Result<bool, WhyFault>
     requires count { reader.old.count ≡ 0 }
     requires took { spec.Took question.now counted.old [] }
-    requires sorted { AreSorted question.now.packets.now }
     ensures { MatchResult result
         (λ is_over. spec.Went question.now reader.old reader.new counted.new (W.contents w.old) (W.contents w.new)
         × spec.Ends question.now.packets.now reader.old.left reader.new is_over)

@@ -1,5 +1,4 @@
 //! The job over a machine in memory: what is said of a report, and growths that are refused.
-ghost use Rattle.std.specs.Prelude.{◌≡◌};
 ghost use Rattle.cbpf_why.specs.Chosen.{AreSorted};
 
 use crate::assertions::{Test, assert_named};
@@ -8,8 +7,8 @@ use crate::why::ranges::packets;
 use crate::why::{ARP_LINES, ARP_SUMMARY};
 use cbpf_machine::Values;
 use cbpf_tool::{
-    CreateFault, Failure, Remarks, Request, ToolFault, WhyFailure, WhyJob, request_status,
-    run_request, write_remarks,
+    CreateFault, Failure, Remarks, ReportAsked, Request, ToolFault, WhyFailure, WhyJob,
+    request_status, run_request, write_remarks,
 };
 use cbpf_why::{PacketRange, Report};
 use session_tests::fault_injection::FaultyAllocator;
@@ -22,14 +21,16 @@ fn named(rt: &impl Test, name: &str) -> String {
 
 /// A report of the source `-` on the capture `k`, or on the standard input.
 fn job(rt: &impl Test, report: Report, is_file: bool, ranges: &[PacketRange]) -> WhyJob
-    ensures { result.packets.items ≡ ranges.now }
+    requires { AreSorted ranges.now }
 {
     WhyJob {
-        report,
-        values: Values::new(),
         filter: named(rt, "-"),
         capture: if is_file { Some(named(rt, "k")) } else { None },
-        packets: Vec::from_slice(rt.alloc(), ranges).expect(rt, "memory"),
+        asked: ReportAsked {
+            report,
+            values: Values::new(),
+            packets: Vec::from_slice(rt.alloc(), ranges).expect(rt, "memory"),
+        },
     }
 }
 

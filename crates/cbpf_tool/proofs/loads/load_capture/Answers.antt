@@ -4,7 +4,7 @@ use Rattle.cbpf_tool.proofs.loads.load_capture.Goals as goal
 
 pub returns-in-Err : goal.returns-in-Err
 returns-in-Err g c = load-failed (λ v. v.items) _ _ _ _ c.args.name.now _ c.in-Err.fault
-    (c.in-Err.ensures {u = tt}) refl c.write_load_fault.ensures
+    (c.in-Err.ensures {u = tt}) refl (rw c.message.ensures at c.write_error.ensures)
 
 pub returns-in-Ok-from_bytes : goal.returns-in-Ok-from_bytes
 returns-in-Ok-from_bytes g c = load-accepted (λ v. v.items) _ _ c.args.session.now _ c.args.name.now _ c.in-Ok.bytes
@@ -14,4 +14,4 @@ returns-in-Ok-from_bytes g c = load-accepted (λ v. v.items) _ _ c.args.session.
 pub returns : goal.returns
 returns g c = load-refused (λ v. v.items) _ _ _ _ c.args.name.now _ c.in-Ok.bytes
     (c.in-Ok.ensures {u = tt}) c.in-Err-from_bytes.fault c.in-Err-from_bytes.ensures.refused refl
-    c.write_capture_fault.ensures
+    (rw c.message-in-Err-from_bytes.ensures at c.write_error-in-Err-from_bytes.ensures)

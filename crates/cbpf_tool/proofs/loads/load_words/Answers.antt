@@ -3,7 +3,7 @@ use Rattle.cbpf_tool.proofs.loads.load_words.Goals as goal
 
 pub returns-in-Err : goal.returns-in-Err
 returns-in-Err g c = words-refused c.args.session.now c.args.text.now c.in-Err.fault _ c.in-Err.ensures.answer
-    c.write_word_fault.ensures
+    (rw c.message.ensures at c.write_error.ensures)
 
 pub returns-in-Ok-check : goal.returns-in-Ok-check
 returns-in-Ok-check g c =
@@ -13,4 +13,4 @@ returns-in-Ok-check g c =
 
 pub returns : goal.returns
 returns g c = words-unsound c.args.session.now c.args.text.now c.in-Ok.list.items c.in-Err-check.fault _
-    c.in-Ok.ensures.answer c.in-Err-check.ensures.fault c.write_check_fault.ensures
+    c.in-Ok.ensures.answer c.in-Err-check.ensures.fault (rw c.message-in-Err-check.ensures at c.write_error-in-Err-check.ensures)

@@ -15,4 +15,4 @@ returns-in-Ok g c =
 pub returns-in-Err : goal.returns-in-Err
 returns-in-Err g c =
     set-refused c.args.session.now c.breakpoint_when.new.self c.args.n c.args.when c.in-Err.fault _ _ _
-    c.in-Err.ensures.reply c.in-Err.ensures.memory c.in-Err.ensures.refused c.write_session_fault.ensures
+    c.in-Err.ensures.reply c.in-Err.ensures.memory c.in-Err.ensures.refused (rw c.message.ensures at c.write_error.ensures)

@@ -24,7 +24,7 @@ loop-range-preserved g c =
       count = ranged.count;
       few = ranged.most;
       went = went-more c.args.question.now i _ c.loop-range.count c.args.reader.now c.loop-range.reader
-          c.take_range.new.reader c.loop-range.counted c.take_range.new.counted _ _ _ c.requires.sorted
+          c.take_range.new.reader c.loop-range.counted c.take_range.new.counted _ _ _ c.args.question.now.sorted
           (slice_get-get_or ranges i (record { first = 0; last = 0 }) inside) before.ended before.went before.count
           c.in_ok-count.count ranged;
       ended = All-more (EndsBy c.in_ok-count.count) ranges i (record { first = 0; last = 0 }) inside
@@ -41,7 +41,7 @@ returns-then-count-range g c =
     let at = slice_get-get_or ranges i (record { first = 0; last = 0 }) inside in
     let ranged = c.in_ok-count.ensures before.went.records before.went.took (omega (arith, before.went.few, before.count)) in
     let went = went-more c.args.question.now i _ c.loop-range.count c.args.reader.now c.loop-range.reader
-    c.take_range.new.reader c.loop-range.counted c.take_range.new.counted _ _ _ c.requires.sorted
+    c.take_range.new.reader c.loop-range.counted c.take_range.new.counted _ _ _ c.args.question.now.sorted
     at before.ended before.went before.count c.in_ok-count.count ranged in (
       went,
       record {
@@ -73,5 +73,5 @@ returns-in_err-count g c =
     let faulted = c.in_err-count.ensures before.went.records before.went.took (omega (arith, before.went.few, before.count)) in
     let is : c.from_residual.result ≡ Err c.in_err-count.field-0.0 = search rules in
     rw is (broke-more c.args.question.now i _ c.loop-range.count c.args.reader.now c.loop-range.reader
-    c.take_range.new.reader c.loop-range.counted c.loop-range.counted _ _ _ c.requires.sorted at before.ended before.went
+    c.take_range.new.reader c.loop-range.counted c.loop-range.counted _ _ _ c.args.question.now.sorted at before.ended before.went
     before.count c.in_err-count.field-0.0 faulted)
