@@ -57,7 +57,7 @@ export LINKS
 help: ## Lists the targets.
 	@grep -E '^[a-z]+:.*##' Makefile | sed -E 's/:.*## /\t/' | expand -t 12
 
-build: ## Proves and builds the program; from nothing 23 minutes on four processors, some half an hour on two, later less.
+build: ## Proves and builds the program; from nothing 15 to 23 minutes on four processors, some 20 to 30 on two, later less.
 	@python3 tools/build.py
 
 demo: ## Proves and builds the program, assembles an example, and debugs a filter of tcpdump over a capture.
@@ -87,7 +87,7 @@ tried: built
 bench: built ## Measures the program that is built beside its peers, and writes the tables of bench/README.md and bench/growth.svg.
 	python3 bench/all.py
 
-check: looked-up ## The gate: proves all crates and their tests, tries the must-fail edits, runs all tests; from nothing 53 minutes on four processors, some hour and a half on two, later less, as only what changed and what stands above it is proved and tried.
+check: looked-up ## The gate: proves all crates and their tests, tries the must-fail edits, runs all tests; from nothing 30 to 53 minutes on four processors, some 60 to 90 on two, later less, as only what changed and what stands above it is proved and tried.
 	@python3 tools/check.py
 	python3 tests/compile.py
 	@$(MAKE) --no-print-directory tried

@@ -291,11 +291,6 @@ def words_in(texts):
     return set(re.findall(r"-*\w+", " ".join(texts)))
 
 
-def spans_below(path, heading):
-    """What stands between backquotes below a heading of a document."""
-    return CODE_SPAN.findall(text_of(path).partition(f"\n## {heading}\n")[2].partition("\n## ")[0])
-
-
 def items_of(page):
     """The heads of a manual page's lists, with options as they are typed."""
     return [re.sub(r"\bFl ", "-", item.replace("\\-", "-")) for item in re.findall(r"^\.It .*", text_of(page), re.M)]
@@ -308,10 +303,9 @@ def check_covered():
     given = b"\n".join(case.get(name, b"") for case in cases for name in ("args", "command")).split()
     in_cases = b"\n".join(text for case in cases for text in case.values())
     reference, page = TOP / "docs/REFERENCE.md", TOP / "man/cbpf.1"
-    in_lines = CODE_SPAN.findall(text_of(reference)) + re.findall(r"^    cbpf .*", text_of(reference), re.M)
-    wanted = [(word, typed, spans_below(reference, "The debugger's commands")) for word in command_words()]
-    wanted += [(word, given, in_lines) for word in line_words()]
-    for word, tried, documented in wanted:
+    documented = CODE_SPAN.findall(text_of(reference)) + re.findall(r"^    cbpf .*", text_of(reference), re.M)
+    wanted = [(word, typed) for word in command_words()] + [(word, given) for word in line_words()]
+    for word, tried in wanted:
         check(word.encode() in tried, CASES, 1, f"no case with {word}")
         check(word in words_in(documented), reference, 1, f"no {word}")
         check(word in words_in(items_of(page)), page, 1, f"no {word}")
@@ -327,7 +321,7 @@ def check_short_forms():
     """Whether the reference, the page and the tests of cbpf-shell have each of its short forms."""
     reference, page, tests = TOP / "docs/REFERENCE.md", TOP / "man/cbpf-shell.1", TOP / "tests/shell.py"
     for word in short_forms():
-        check(word in words_in(spans_below(reference, "At a terminal")), reference, 1, f"no short form {word}")
+        check(word in words_in(CODE_SPAN.findall(text_of(reference))), reference, 1, f"no short form {word}")
         check(word in words_in(items_of(page)), page, 1, f"no short form {word}")
         check(re.search(rf'"{word}[" \\]', text_of(tests)), tests, 1, f"no short form {word}")
 

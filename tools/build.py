@@ -25,7 +25,7 @@ PROGRAM = "cbpf"
 # The most memory that a check takes, with some room to spare.
 CHECK_NEEDS = 7 << 29
 BEFOREHAND = """This proves what isn't proved yet, and builds the program. From nothing, and after `make check`, which keeps
-no proofs, that takes 23 minutes on four processors and some half an hour on two; after a change a few."""
+no proofs, that takes 15 to 23 minutes on four processors and some 20 to 30 on two; after a change a few."""
 
 
 def checks_at_a_time():
