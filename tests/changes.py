@@ -61,7 +61,10 @@ def all_items(crates):
 
 
 def git(*words):
-    return subprocess.run(["git", "-C", TOP, *words], capture_output=True).stdout
+    try:
+        return subprocess.run(["git", "-C", TOP, *words], capture_output=True).stdout
+    except FileNotFoundError:
+        return b""
 
 
 def released(version):
