@@ -14,6 +14,11 @@ use Rattle.pcap_classic.specs.declared.reading.OpenFault.{OpenFault}
 use Rattle.pcap_classic.specs.declared.reading.OpenFault.TheVariants as open_fault
 use Rattle.pcap_classic.specs.declared.window.TheConstants.{ROOM}
 
+-- the bytes that were read and not yet taken, and the offset in the file where they stand
+pub record Unread : Type 0 where
+  pub offset : ℕ
+  pub bytes : List ℕ
+
 -- how many records were read; how the capture ends, where the last call came to its end; and the capture without the
 -- records that were read, where the reader's bytes are known
 pub record Reading : Type 0 where

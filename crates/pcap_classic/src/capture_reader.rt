@@ -21,7 +21,7 @@ use crate::header::{FILE_HEADER, FileHeader, header_of};
 use crate::reading::{OpenFault, ReadFault};
 use crate::window::Window;
 use std::alloc::{Allocator, Global};
-use std::io::{Error, ErrorKind, Read};
+use std::io::Read;
 use std::marker::Model;
 
 /// How many bytes a record needs at least, where fewer stand there; `None` where a whole record does.
@@ -49,9 +49,10 @@ fn fill<R: Read, A: Allocator>(
     reader: &mut R,
     size: usize,
 ) -> Result<(), ReadFault>
-    ensures kept { Keeps (prepend_known window.old (R.remaining reader.old))
-        (prepend_known window.new (R.remaining reader.new)) }
-    ensures end { OnOk result (length window.new < size → IsAtEnd (R.remaining reader.new)) }
+    ensures kept { Keeps (prepend_known window.old.bytes (R.remaining reader.old))
+        (prepend_known window.new.bytes (R.remaining reader.new)) }
+    ensures place { window.new.offset ≡ window.old.offset }
+    ensures end { OnOk result (length window.new.bytes < size → IsAtEnd (R.remaining reader.new)) }
 {
     'reads: while window.as_slice().len() < size {
         if !window.read(reader, size)? {
@@ -67,12 +68,13 @@ fn fill_record<R: Read, A: Allocator>(
     reader: &mut R,
     order: Endianness,
 ) -> Result<(), ReadFault>
-    ensures kept { Keeps (prepend_known window.old (R.remaining reader.old))
-        (prepend_known window.new (R.remaining reader.new)) }
-    ensures end { OnOk result (spec.extent_of order window.new ≢ WholeRecord (records.record_length order window.new)
+    ensures kept { Keeps (prepend_known window.old.bytes (R.remaining reader.old))
+        (prepend_known window.new.bytes (R.remaining reader.new)) }
+    ensures place { window.new.offset ≡ window.old.offset }
+    ensures end { OnOk result (spec.extent_of order window.new.bytes ≢ WholeRecord (records.record_length order window.new.bytes)
         → IsAtEnd (R.remaining reader.new)) }
-    ensures refused { IsErrOf result Memory → (ROOM ≤ length window.new)
-        × (length window.new < records.record_length order window.new) }
+    ensures refused { IsErrOf result Memory → (ROOM ≤ length window.new.bytes)
+        × (length window.new.bytes < records.record_length order window.new.bytes) }
 {
     'reads: while let Some(size) = needed(order, window.as_slice()) {
         if !window.read(reader, size)? {
@@ -100,8 +102,6 @@ pub struct CaptureReader<R: Read, A: Allocator = Global> {
     last: usize,
     /// The number of records that were read.
     count: u64,
-    /// The offset after them.
-    offset: usize,
     ending: Option<Ending>,
 }
 
@@ -119,12 +119,13 @@ impl<R: Read, A: Allocator> Model for CaptureReader<R, A> {
     ghost view = { λ r. record {
       count = r.count;
       ended = r.ending;
-      left = option_map (savefile_from r.header (r.count + 1) r.offset)
-          (prepend_known (drop r.last r.window) (R.remaining r.reader));
+      left = option_map (savefile_from r.header (r.count + 1) (r.window.offset + r.last))
+          (prepend_known (drop r.last r.window.bytes) (R.remaining r.reader));
     } };
 
-    ghost invariant = { λ r. (r.last ≤ length r.window) × (RECORD_HEADER * r.count + FILE_HEADER ≤ r.offset)
-        × NoneLeftWhere r.ending r.header.magic.order (drop r.last r.window) };
+    ghost invariant = { λ r. (r.last ≤ length r.window.bytes)
+        × (RECORD_HEADER * r.count + FILE_HEADER ≤ r.window.offset + r.last)
+        × NoneLeftWhere r.ending r.header.magic.order (drop r.last r.window.bytes) };
 }
 
 impl<R: Read, A: Allocator> CaptureReader<R, A> {
@@ -162,7 +163,6 @@ impl<R: Read, A: Allocator> CaptureReader<R, A> {
             window,
             last: 0,
             count: 0,
-            offset: FILE_HEADER,
             ending: None,
         })
     }
@@ -220,14 +220,10 @@ impl<R: Read, A: Allocator> CaptureReader<R, A> {
             return Err(fault);
         }
         let extent = extent_of(order, self.window.as_slice());
-        let start = self.offset;
+        let start = self.window.offset();
         if let Extent::WholeRecord(size) = extent {
-            let Some(offset) = start.checked_add(size) else {
-                return Err(ReadFault::Read(Error::from(ErrorKind::FileTooLarge)));
-            };
             self.last = size;
             self.count += 1;
-            self.offset = offset;
             let bytes = self.window.as_slice();
             return Ok(Some(front_record(order, self.count, start, bytes)));
         }
@@ -249,12 +245,10 @@ impl<R: Read, A: Allocator> CaptureReader<R, A> {
         else {
             return None;
         };
-        let start = self.offset;
-        let offset = start.checked_add(size)?;
         self.window.take(self.last);
+        let start = self.window.offset();
         self.last = size;
         self.count += 1;
-        self.offset = offset;
         Some(front_record(order, self.count, start, self.window.as_slice()))
     }
 

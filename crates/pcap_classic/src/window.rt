@@ -1,6 +1,6 @@
-//! The bytes that were read from a reader and not yet taken.
+//! The bytes that were read from a reader and not yet taken, and where they stand in its file.
 
-ghost use Rattle.std.specs.Prelude.{◌≡◌, ◌<◌, ◌≤◌, ◌+◌, ◌-◌, [], length, take, drop, slice_range, true, false, vec_len};
+ghost use Rattle.std.specs.Prelude.{◌≡◌, ◌<◌, ◌≤◌, ◌+◌, ◌-◌, ◌^◌, [], length, take, drop, slice_range, true, false, vec_len};
 ghost use Rattle.std.specs.Prelude.{IfOk, OnOk, OnErr, IsErrOf};
 ghost use Rattle.std.specs.Io.KnownBytes.{Keeps, Consumes, IsAtEnd, prepend_known};
 ghost use Rattle.pcap_classic.specs.declared.reading.ReadFault.TheVariants.{Memory};
@@ -8,13 +8,13 @@ ghost use Rattle.pcap_classic.specs.declared.window.TheConstants.{ROOM};
 
 use crate::reading::ReadFault;
 use std::alloc::{AllocError, Allocator};
-use std::io::{self, Read};
+use std::io::{self, Error, ErrorKind, Read};
 use std::marker::Model;
 
 /// How many bytes there is room for at first: 128 kB.
 const ROOM: usize = 0x20000;
 
-/// The bytes that were read and not yet taken, which contracts see as the list of them.
+/// The bytes that were read and not yet taken, which contracts see as the list of them and the offset where they stand.
 ///
 /// There is room for 128 kB at first. It grows only once it is full, to twice the bytes that came, or to those that are
 /// needed if they are fewer.
@@ -24,17 +24,21 @@ pub(crate) struct Window<A: Allocator> {
     buf: Vec<u8, A>,
     start: usize,
     end: usize,
+    /// The offset in the file of the first byte of `buf`.
+    base: usize,
 }
 
 impl<A: Allocator> Model for Window<A> {
-    ghost use Rattle.std.specs.Prelude.{◌≤◌, ℕ, List, slice_range, vec_len};
+    ghost use Rattle.std.specs.Prelude.{◌≤◌, ◌<◌, ◌+◌, ◌^◌, slice_range, vec_len};
+    ghost use Rattle.pcap_classic.specs.Reading.{Unread};
     ghost use Rattle.pcap_classic.specs.declared.window.TheConstants.{ROOM};
 
-    ghost Value = { List ℕ };
+    ghost Value = { Unread };
 
-    ghost view = { λ w. slice_range w.buf.items w.start w.end };
+    ghost view = { λ w. record { offset = w.base + w.start; bytes = slice_range w.buf.items w.start w.end } };
 
-    ghost invariant = { λ w. (w.start ≤ w.end) × (w.end ≤ vec_len w.buf) × (ROOM ≤ vec_len w.buf) };
+    ghost invariant = { λ w. (w.start ≤ w.end) × (w.end ≤ vec_len w.buf) × (ROOM ≤ vec_len w.buf)
+        × (w.base + w.end < 2 ^ 64) };
 }
 
 /// Moves the bytes from `start` up to `end` to the front.
@@ -91,7 +95,7 @@ fn read_after<R: Read, A: Allocator>(
 
 impl<A: Allocator> Window<A> {
     pub(crate) fn new(alloc: A) -> Result<Window<A>, AllocError>
-        ensures { IfOk result (λ w. w ≡ []) }
+        ensures { IfOk result (λ w. w ≡ record { offset = 0; bytes = [] }) }
     {
         let mut buf = Vec::with_capacity(alloc, ROOM)?;
         buf.resize(ROOM, 0)?;
@@ -99,42 +103,60 @@ impl<A: Allocator> Window<A> {
             buf,
             start: 0,
             end: 0,
+            base: 0,
         })
     }
 
     #[inline(always)]
     pub(crate) fn as_slice(&self) -> &[u8]
-        ensures { result.now ≡ self.now }
+        ensures { result.now ≡ self.now.bytes }
     {
         let (start, end) = (self.start, self.end);
         &self.buf.as_slice()[start..end]
     }
 
+    /// The offset in the file of the first of these bytes.
+    #[inline(always)]
+    pub(crate) fn offset(&self) -> usize
+        ensures value { result ≡ self.now.offset }
+        ensures bound { result + length self.now.bytes < 2 ^ 64 }
+    {
+        self.base + self.start
+    }
+
     /// Takes so many bytes.
     #[inline(always)]
     pub(crate) fn take(&mut self, count: usize)
-        requires { count ≤ length self.old }
-        ensures { self.new ≡ drop count self.old }
+        requires { count ≤ length self.old.bytes }
+        ensures place { self.new.offset ≡ self.old.offset + count }
+        ensures bytes { self.new.bytes ≡ drop count self.old.bytes }
     {
         self.start += count;
     }
 
     /// Reads once, where so many bytes are needed and fewer are there; false at the reader's end.
+    ///
+    /// It fails where the bytes could reach an offset that is no `usize`.
     pub(crate) fn read<R: Read>(&mut self, reader: &mut R, needed: usize) -> Result<bool, ReadFault>
-        requires { length self.old < needed }
-        ensures kept { Keeps (prepend_known self.old (R.remaining reader.old))
-            (prepend_known self.new (R.remaining reader.new)) }
-        ensures more { IfOk result (λ more. more ≡ true → length self.old < length self.new) }
+        requires { length self.old.bytes < needed }
+        ensures kept { Keeps (prepend_known self.old.bytes (R.remaining reader.old))
+            (prepend_known self.new.bytes (R.remaining reader.new)) }
+        ensures place { self.new.offset ≡ self.old.offset }
+        ensures more { IfOk result (λ more. more ≡ true → length self.old.bytes < length self.new.bytes) }
         ensures end { IfOk result (λ more. more ≡ false → IsAtEnd (R.remaining reader.new)) }
         ensures stays { OnErr result (self.new ≡ self.old) }
-        ensures refused { IsErrOf result Memory → ROOM ≤ length self.new }
+        ensures refused { IsErrOf result Memory → ROOM ≤ length self.new.bytes }
     {
         let len = self.end - self.start;
         move_to_front(&mut self.buf, self.start, self.end);
+        self.base += self.start;
         self.start = 0;
         self.end = len;
         if make_room(&mut self.buf, len, needed).is_err() {
             return Err(ReadFault::Memory);
+        }
+        if self.base.checked_add(self.buf.len()).is_none() {
+            return Err(ReadFault::Read(Error::from(ErrorKind::FileTooLarge)));
         }
         match read_after(reader, &mut self.buf, len) {
             Ok(count) => {

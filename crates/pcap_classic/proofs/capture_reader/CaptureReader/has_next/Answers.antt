@@ -12,5 +12,6 @@ pub returns : goal.returns
 returns g c = λ is.
     let w = c.self.inside in
     let none = is_none c.needed.result c.is_none.result c.is_none.ensures is in
-    rw (← c.self.view_is) (has-record w.header (w.count + 1) w.offset _ (drop w.last w.window) _
-    (rw (all_after w.window w.last) at (rw (none, c.as_slice.ensures) at c.needed.ensures.none)))
+    rw (← c.self.view_is) (has-record w.header (w.count + 1) (w.window.offset + w.last) _
+    (drop w.last w.window.bytes) _
+    (rw (all_after w.window.bytes w.last) at (rw (none, c.as_slice.ensures) at c.needed.ensures.none)))
