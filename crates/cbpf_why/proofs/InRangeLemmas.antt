@@ -44,18 +44,18 @@ known_any first (Some s) mid new before after more (r ∷ x ∷ xs) reads leaves
 known_any first (Some s) mid new before after more (r ∷ []) reads leaves e =
     known_more first (Some s) mid new before after more (r ∷ []) reads leaves refl
 
-pub range-starts : {A P : Type 0} (q : Question P) (first : ℕ) (records : List Record) (before : ℕ) (old : Option Savefile)
-    (c : Counted A) (w : Option (List ℕ)) → Took q c records → length records ≤ before → Appended w w []
-    → Going q first records before old old c w w before
-range-starts q first records before old c w took few nothing = record {
+pub range-starts : {A P : Type 0} (q : Question P) (first : ℕ) (records : List Record) (old : Reading) (c : Counted A)
+    (w : Option (List ℕ)) → Took q c records → length records ≤ old.count → Appended w w []
+    → Going q first records old old c w w
+range-starts q first records old c w took few nothing = record {
   more = [];
   took = rw (append-nil records) took;
   few = rw (append-nil records) few;
-  reads = starts old;
+  reads = starts old.left;
   wrote = nothing;
 }
   where
-    starts : (o : Option Savefile) → TookFromKnown first o o before before []
+    starts : (o : Option Savefile) → TookFromKnown first o o old.count old.count []
     starts None = tt
     starts (Some s) = (
       s,
@@ -69,11 +69,10 @@ range-starts q first records before old c w took few nothing = record {
       },
     )
 
-pub range-goes : {A P : Type 0} (q : Question P) (first : ℕ) (records : List Record) (before : ℕ) (left : Option Savefile) (mid new : Reading)
-    (c d : Counted A) (u v w : Option (List ℕ)) (after : ℕ) (going : Going q first records before left mid.left c u v after)
-    → mid.count ≡ after → Stepped q first (records ++ going.more) mid new d v w true
-    → Going q first records before left new.left d u w (after + 1)
-range-goes q first records before left mid new c d u v w after going count step = record {
+pub range-goes : {A P : Type 0} (q : Question P) (first : ℕ) (records : List Record) (old mid new : Reading)
+    (c d : Counted A) (u v w : Option (List ℕ)) (going : Going q first records old mid c u v)
+    → Stepped q first (records ++ going.more) mid new d v w true → Going q first records old new d u w
+range-goes q first records old mid new c d u v w going step = record {
   more = going.more ++ from_first first step.one;
   took = rw (sym (append_assoc records going.more (from_first first step.one))) step.took;
   few =
@@ -81,24 +80,23 @@ range-goes q first records before left mid new c d u v w after going count step 
       let at_most = length-filter (λ r. nat_le first r.number) step.one in
       let most = count_by-le-length (λ r. nat_le first r.number) step.one in
       let same = ap length (append_assoc records going.more (from_first first step.one)) in
-      omega (arith, long, at_most, most, step.is_one, going.few, same);
-  reads = known_more first left mid.left new.left before after going.more step.one going.reads
-      (rw count at step.leaves) step.is_one;
+      omega (arith, long, at_most, most, step.is_one, step.count, going.few, same);
+  reads =
+      let count : new.count ≡ mid.count + 1 = omega (arith, step.is_one, step.count) in
+      rw count (known_more first old.left mid.left new.left old.count mid.count going.more step.one going.reads
+      step.leaves step.is_one);
   wrote = rw (flat_map-append (packet_text q.report (machine_in q)) going.more (from_first first step.one))
       (appended-then _ _ _ _ _ going.wrote step.wrote);
 }
 
-pub range-fails : {A P : Type 0} (q : Question P) (range : PacketRange) (records : List Record) (before : ℕ) (old mid new : Reading)
-    (c : Counted A) (u v w : Option (List ℕ)) (after : ℕ) (fault : WhyFault)
-    → Going q range.first records before old.left mid.left c u v after → mid.count ≡ after → after < range.last
-    → StepFault q range.first mid new v w fault → RangeFault q range before old new u w fault
-range-fails q range records before old mid new c u v w after fault going count below step = record {
+pub range-fails : {A P : Type 0} (q : Question P) (range : PacketRange) (records : List Record) (old mid new : Reading)
+    (c : Counted A) (u v w : Option (List ℕ)) (fault : WhyFault) → Going q range.first records old mid c u v
+    → mid.count < range.last → StepFault q range.first mid new v w fault → RangeFault q range old new u w fault
+range-fails q range records old mid new c u v w fault going below step = record {
   more = going.more ++ from_first range.first step.one;
-  after = after + length step.one;
-  up_to = λ h. omega (arith, below, step.is_few);
-  count = omega (arith, step.count, count);
-  reads = known_any range.first old.left mid.left new.left before after going.more step.one going.reads
-      (rw count at step.leaves) step.is_few;
+  up_to = λ h. omega (arith, below, step.is_few, step.count);
+  reads = rw step.count (known_any range.first old.left mid.left new.left old.count mid.count going.more step.one
+      going.reads step.leaves step.is_few);
   stopped = rw (flat_map-append (packet_text q.report (machine_in q)) going.more (from_first range.first step.one))
       (stopped_more fault u v w (packets_text q.report (machine_in q) going.more) _ going.wrote step.stopped);
 }
@@ -120,33 +118,31 @@ ends_known first (Some s) mid new before after more reads leaves ends =
     rw left.1 (rw left.2 at there)
 
 -- the capture's end in a range
-pub range-ends : {A P : Type 0} (q : Question P) (range : PacketRange) (records : List Record) (before : ℕ) (old mid new : Reading)
-    (c d : Counted A) (u v w : Option (List ℕ)) (after : ℕ) (one : List Record)
-    (going : Going q range.first records before old.left mid.left c u v after) → mid.count ≡ after → before ≤ after
-    → (before < after → after ≤ range.last) → after < 2 ^ 60
-    → length one ≡ 0 → Took q d ((records ++ going.more) ++ from_first range.first one) → new.count ≡ mid.count + length one
+pub range-ends : {A P : Type 0} (q : Question P) (range : PacketRange) (records : List Record) (old mid new : Reading)
+    (c d : Counted A) (u v w : Option (List ℕ)) (one : List Record)
+    (going : Going q range.first records old mid c u v) → old.count ≤ mid.count → mid.count ≤ range.last
+    → mid.count < 2 ^ 60 → length one ≡ 0 → Took q d ((records ++ going.more) ++ from_first range.first one) → new.count ≡ mid.count + length one
     → LeavesKnown mid.count mid.left new.left one → IfSome mid.left (λ s. (s.records ≡ []) × (new.ended ≡ Some s.ending))
     → Appended v w (packets_text q.report (machine_in q) (from_first range.first one))
-    → Ranged q range records before old new d u w after
-range-ends q range records before old mid new c d u v w after (r ∷ rs) going count since up_to most none took counted leaves ends wrote =
+    → Ranged q range records old new d u w
+range-ends q range records old mid new c d u v w (r ∷ rs) going since up_to most none took counted leaves ends wrote =
     absurd (omega (arith, none))
-range-ends q range records before old mid new c d u v w after [] going count since up_to most none took counted leaves ends wrote =
-    let here = rw count at leaves in
-    let same : after + 0 ≡ after = omega arith in
+range-ends q range records old mid new c d u v w [] going since up_to most none took counted leaves ends wrote =
+    let same : new.count ≡ mid.count = omega (arith, counted) in
+    let stays : mid.count + 0 ≡ mid.count = omega arith in
     record {
       going = record {
         more = going.more;
         took = rw (append-nil (records ++ going.more)) at took;
-        few = going.few;
-        reads = rw (same, append-nil going.more) at
-            (known_any range.first old.left mid.left new.left before after going.more [] going.reads here (omega arith));
+        few = rw same going.few;
+        reads = rw same (rw (stays, append-nil going.more) at
+            (known_any range.first old.left mid.left new.left old.count mid.count going.more [] going.reads leaves (omega arith)));
         wrote = rw (append-nil (packets_text q.report (machine_in q) going.more)) at (appended-then _ _ _ _ _ going.wrote wrote);
       };
-      since = since;
-      up_to = up_to;
-      most = most;
-      count = omega (arith, counted, count);
-      ends = λ below. ends_known range.first old.left mid.left new before after going.more going.reads here ends;
+      since = omega (arith, since, same);
+      up_to = λ h. omega (arith, up_to, same);
+      most = omega (arith, most, same);
+      ends = λ below. ends_known range.first old.left mid.left new old.count mid.count going.more going.reads leaves ends;
     }
 
 -- what was written, by the fault of the report

@@ -193,26 +193,26 @@ went-nothing q old c w took count nothing = record {
     starts ranges None = tt
     starts ranges (Some s) = (s, refl, record { front = []; split = refl; counted = refl; among = refl })
 
-module _ {A P : Type 0} (q : Question P) (i : ℕ) (range : PacketRange) (before : ℕ) (old mid new : Reading)
+module _ {A P : Type 0} (q : Question P) (i : ℕ) (range : PacketRange) (old mid new : Reading)
     (c d : Counted A) (u v w : Option (List ℕ)) (sorted : AreSorted q.packets.now)
-    (at : slice_get q.packets.now i ≡ Some range) (ended : All (EndsBy before) (take i q.packets.now))
-    (went : Went q old mid c u v) (count : mid.count ≡ before) where
-  pub went-more : (after : ℕ) → Ranged q range went.records before mid new d v w after → Went q old new d u w
-  went-more after ranged = record {
+    (at : slice_get q.packets.now i ≡ Some range) (ended : All (EndsBy mid.count) (take i q.packets.now))
+    (went : Went q old mid c u v) where
+  pub went-more : Ranged q range went.records mid new d v w → Went q old new d u w
+  went-more ranged = record {
     records = went.records ++ ranged.going.more;
     took = ranged.going.took;
-    few = rw ranged.count ranged.going.few;
-    known = rw ranged.count (known_more q.packets.now i range old.left mid.left new.left before after went.records
-        ranged.going.more sorted at ended ranged.up_to (rw count at went.known) ranged.going.reads);
+    few = ranged.going.few;
+    known = known_more q.packets.now i range old.left mid.left new.left mid.count new.count went.records
+        ranged.going.more sorted at ended ranged.up_to went.known ranged.going.reads;
     wrote = rw (flat_map-append (packet_text q.report (machine_in q)) went.records ranged.going.more)
         (appended-then _ _ _ _ _ went.wrote ranged.going.wrote);
   }
 
-  pub broke-more : (fault : WhyFault) → RangeFault q range before mid new v w fault → Broke q old.left new u w fault
+  pub broke-more : (fault : WhyFault) → RangeFault q range mid new v w fault → Broke q old.left new u w fault
   broke-more fault faulted = record {
     records = went.records ++ faulted.more;
-    known = rw faulted.count (known_more q.packets.now i range old.left mid.left new.left before faulted.after went.records
-        faulted.more sorted at ended faulted.up_to (rw count at went.known) faulted.reads);
+    known = known_more q.packets.now i range old.left mid.left new.left mid.count new.count went.records
+        faulted.more sorted at ended faulted.up_to went.known faulted.reads;
     stopped = rw (flat_map-append (packet_text q.report (machine_in q)) went.records faulted.more)
         (stopped_more fault u v w (packets_text q.report (machine_in q) went.records) _ went.wrote faulted.stopped);
   }
@@ -256,21 +256,21 @@ known_all None new after more reads = tt
 known_all (Some s) new after more reads = (reads.0, reads.1, looked_all s reads.0 after more reads.2)
 
 pub went-all : {A P : Type 0} (q : Question P) (last : ℕ) (old new : Reading) (d : Counted A) (u w : Option (List ℕ))
-    (after : ℕ) → q.packets.now ≡ [] → Ranged q (record { first = 1; last = last }) [] 0 old new d u w after
+    → old.count ≡ 0 → q.packets.now ≡ [] → Ranged q (record { first = 1; last = last }) [] old new d u w
     → Went q old new d u w
-went-all q last old new d u w after all ranged = record {
+went-all q last old new d u w none all ranged = record {
   records = ranged.going.more;
   took = ranged.going.took;
-  few = rw ranged.count ranged.going.few;
-  known = rw (all, ranged.count) (known_all old.left new.left after ranged.going.more ranged.going.reads);
+  few = ranged.going.few;
+  known = rw all (known_all old.left new.left new.count ranged.going.more (rw none at ranged.going.reads));
   wrote = ranged.going.wrote;
 }
 
 pub broke-all : {P : Type 0} (q : Question P) (last : ℕ) (old new : Reading) (u w : Option (List ℕ)) (fault : WhyFault)
-    → q.packets.now ≡ [] → RangeFault q (record { first = 1; last = last }) 0 old new u w fault
+    → old.count ≡ 0 → q.packets.now ≡ [] → RangeFault q (record { first = 1; last = last }) old new u w fault
     → Broke q old.left new u w fault
-broke-all q last old new u w fault all faulted = record {
+broke-all q last old new u w fault none all faulted = record {
   records = faulted.more;
-  known = rw (all, faulted.count) (known_all old.left new.left faulted.after faulted.more faulted.reads);
+  known = rw all (known_all old.left new.left new.count faulted.more (rw none at faulted.reads));
   stopped = faulted.stopped;
 }

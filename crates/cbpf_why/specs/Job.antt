@@ -100,40 +100,37 @@ Closed old new (Err Read) text = ⊥
 abbrev pub IsOver : Option Savefile → Reading → Type 0
 IsOver old new = IfSome old (λ _. IfSome new.left (λ s. (s.records ≡ []) × (new.ended ≡ Some s.ending)))
 
--- of a range: `before` packets were read and `records` taken; now `after` packets are read, and `more` was taken too.
--- `w` and `v` are what the writer held then and holds now
-pub record Going {A P : Type 0} (q : Question P) (first : ℕ) (records : List Record) (before : ℕ) (old new : Option Savefile)
-    (c : Counted A) (w v : Option (List ℕ)) (after : ℕ) : Type 0 where
+-- of a range: `records` were taken before it; since then the reader has come from `old` to `new`, and `more` was taken
+-- too. `w` and `v` are what the writer held then and holds now
+pub record Going {A P : Type 0} (q : Question P) (first : ℕ) (records : List Record) (old new : Reading)
+    (c : Counted A) (w v : Option (List ℕ)) : Type 0 where
   pub more : List Record
   pub took : Took q c (records ++ more)
-  pub few : length (records ++ more) ≤ after
-  pub reads : TookFromKnown first old new before after more
+  pub few : length (records ++ more) ≤ new.count
+  pub reads : TookFromKnown first old.left new.left old.count new.count more
   pub wrote : Appended w v (packets_text q.report (machine_in q) more)
 
--- what is known of a range at `before` packets is known of it at `after`, and nothing was written meanwhile
-abbrev pub GoesOn : {A P : Type 0} → Question P → ℕ → Reading → Reading → Counted A → Counted A → ℕ → ℕ → Type 0
-GoesOn q first old new c d before after = (start : ℕ) (left : Option Savefile) (records : List Record) (w v : Option (List ℕ))
-    → Going q first records start left old.left c w v before → Going q first records start left new.left d w v after
+-- what is known of a range with the reader at `old` is known of it at `new`, and nothing was written meanwhile
+abbrev pub GoesOn : {A P : Type 0} → Question P → ℕ → Reading → Reading → Counted A → Counted A → Type 0
+GoesOn q first old new c d = (start : Reading) (records : List Record) (w v : Option (List ℕ))
+    → Going q first records start old c w v → Going q first records start new d w v
 
 -- The same of all packets of a range. Where the last packet read has a number below the range's last, the end of the
 -- capture was reached, if the capture is known.
-pub record Ranged {A P : Type 0} (q : Question P) (range : PacketRange) (records : List Record) (before : ℕ)
-    (old new : Reading) (c : Counted A) (w v : Option (List ℕ)) (after : ℕ) : Type 0 where
-  pub going : Going q range.first records before old.left new.left c w v after
-  pub since : before ≤ after
-  pub up_to : before < after → after ≤ range.last
-  pub most : after < 2 ^ 60
-  pub count : new.count ≡ after
-  pub ends : after < range.last → IsOver old.left new
+pub record Ranged {A P : Type 0} (q : Question P) (range : PacketRange) (records : List Record) (old new : Reading)
+    (c : Counted A) (w v : Option (List ℕ)) : Type 0 where
+  pub going : Going q range.first records old new c w v
+  pub since : old.count ≤ new.count
+  pub up_to : old.count < new.count → new.count ≤ range.last
+  pub most : new.count < 2 ^ 60
+  pub ends : new.count < range.last → IsOver old.left new
 
 -- or a fault came, after the records that were taken last
-pub record RangeFault {P : Type 0} (q : Question P) (range : PacketRange) (before : ℕ) (old new : Reading)
-    (w v : Option (List ℕ)) (fault : WhyFault) : Type 0 where
+pub record RangeFault {P : Type 0} (q : Question P) (range : PacketRange) (old new : Reading) (w v : Option (List ℕ))
+    (fault : WhyFault) : Type 0 where
   pub more : List Record
-  pub after : ℕ
-  pub up_to : before < after → after ≤ range.last
-  pub count : new.count ≡ after
-  pub reads : TookFromKnown range.first old.left new.left before after more
+  pub up_to : old.count < new.count → new.count ≤ range.last
+  pub reads : TookFromKnown range.first old.left new.left old.count new.count more
   pub stopped : Stopped fault w v (packets_text q.report (machine_in q) more)
 
 -- what is known of the capture before and after a call that reads a record, if there is one

@@ -127,7 +127,7 @@ fn take_next<P: Allocator, A: Allocator + Copy, R: Read, B: Allocator, W: Write>
     }
 }
 
-/// Counts the packets that were read already, up to the range's last number: how many were read after it.
+/// Counts the packets that were read already, up to the range's last number.
 // Kept out of line: the loop over records stands alone.
 #[inline(never)]
 fn count_buffered<P: Allocator, A: Allocator + Copy, R: Read, B: Allocator>(
@@ -135,95 +135,79 @@ fn count_buffered<P: Allocator, A: Allocator + Copy, R: Read, B: Allocator>(
     counted: &mut Counted<A>,
     reader: &mut CaptureReader<R, B>,
     range: PacketRange,
-    before: u64,
-) -> u64
+)
     requires summary { question.now.report ≡ Summary }
-    requires begun { range.first ≤ before + 1 }
-    requires count { reader.old.count ≡ before }
-    requires few { before < 2 ^ 60 }
-    requires within { before ≤ range.last }
-    requires took { (records : List Record) × spec.Took question.now counted.old records × (length records ≤ before) }
-    ensures count { reader.new.count ≡ result }
-    ensures few { result < 2 ^ 60 }
-    ensures since { before ≤ result }
-    ensures within { result ≤ range.last }
-    ensures going { spec.GoesOn question.now range.first reader.old reader.new counted.old counted.new before result }
+    requires begun { range.first ≤ reader.old.count + 1 }
+    requires few { reader.old.count < 2 ^ 60 }
+    requires within { reader.old.count ≤ range.last }
+    requires took { (records : List Record) × spec.Took question.now counted.old records
+        × (length records ≤ reader.old.count) }
+    ensures few { reader.new.count < 2 ^ 60 }
+    ensures since { reader.old.count ≤ reader.new.count }
+    ensures within { reader.new.count ≤ range.last }
+    ensures going { spec.GoesOn question.now range.first reader.old reader.new counted.old counted.new }
 {
-    let mut count = before;
-    'records: while count < range.last {
+    'records: while reader.count() < range.last {
         let Some(item) = reader.next_buffered() else {
-            return count;
+            return;
         };
         add_ended::<P, A, 5>(question, counted, &item);
-        count += 1;
     }
-    count
 }
 
-/// Takes the packets that need no read and of which nothing is written, up to the range's last number: how many were read
-/// after it.
+/// Takes the packets that need no read and of which nothing is written, up to the range's last number.
 #[inline(always)]
 fn take_ready<P: Allocator, A: Allocator + Copy, R: Read, B: Allocator>(
     question: &Question<'_, P>,
     counted: &mut Counted<A>,
     reader: &mut CaptureReader<R, B>,
     range: PacketRange,
-    before: u64,
-) -> u64
-    requires count { reader.old.count ≡ before }
-    requires few { before < 2 ^ 60 }
-    requires within { before ≤ range.last }
-    requires took { (records : List Record) × spec.Took question.now counted.old records × (length records ≤ before) }
-    ensures count { reader.new.count ≡ result }
-    ensures few { result < 2 ^ 60 }
-    ensures since { before ≤ result }
-    ensures within { result ≤ range.last }
-    ensures going { spec.GoesOn question.now range.first reader.old reader.new counted.old counted.new before result }
+)
+    requires few { reader.old.count < 2 ^ 60 }
+    requires within { reader.old.count ≤ range.last }
+    requires took { (records : List Record) × spec.Took question.now counted.old records
+        × (length records ≤ reader.old.count) }
+    ensures few { reader.new.count < 2 ^ 60 }
+    ensures since { reader.old.count ≤ reader.new.count }
+    ensures within { reader.new.count ≤ range.last }
+    ensures going { spec.GoesOn question.now range.first reader.old reader.new counted.old counted.new }
 {
-    if matches!(question.report, Report::Summary) && range.first <= before + 1 {
-        count_buffered(question, counted, reader, range, before)
-    } else {
-        before
+    if matches!(question.report, Report::Summary) && range.first <= reader.count() + 1 {
+        count_buffered(question, counted, reader, range);
     }
 }
 
-/// Takes the packets of a range, where so many records were read before: how many were read after it. It is fewer than
-/// the range's last number only at the capture's end.
+/// Takes the packets of a range. Fewer were read after it than the range's last number only at the capture's end.
 fn take_range<P: Allocator, A: Allocator + Copy, R: Read, B: Allocator, W: Write>(
     question: &Question<'_, P>,
     counted: &mut Counted<A>,
     reader: &mut CaptureReader<R, B>,
     w: &mut W,
     range: PacketRange,
-    before: u64,
-) -> Result<u64, WhyFault>
-    requires count { reader.old.count ≡ before }
-    requires few { before < 2 ^ 60 }
-    requires took { (records : List Record) × spec.Took question.now counted.old records × (length records ≤ before) }
-    ensures { (records : List Record) → spec.Took question.now counted.old records → length records ≤ before →
+) -> Result<(), WhyFault>
+    requires few { reader.old.count < 2 ^ 60 }
+    requires took { (records : List Record) × spec.Took question.now counted.old records
+        × (length records ≤ reader.old.count) }
+    ensures { (records : List Record) → spec.Took question.now counted.old records → length records ≤ reader.old.count →
         MatchResult result
-        (λ after. spec.Ranged question.now range records before reader.old reader.new counted.new
-        (W.contents w.old) (W.contents w.new) after)
-        (λ fault. spec.RangeFault question.now range before reader.old reader.new
-        (W.contents w.old) (W.contents w.new) fault) }
+        (λ _. spec.Ranged question.now range records reader.old reader.new counted.new (W.contents w.old) (W.contents w.new))
+        (λ fault. spec.RangeFault question.now range reader.old reader.new (W.contents w.old) (W.contents w.new) fault) }
 {
-    let mut count = before;
-    'records: while count < range.last {
-        count = take_ready(question, counted, reader, range, count);
-        if count == range.last {
-            return Ok(count);
+    'records: while reader.count() < range.last {
+        take_ready(question, counted, reader, range);
+        if reader.count() == range.last {
+            return Ok(());
         }
         match take_next(question, counted, reader, w, range.first) {
             Ok(has_more) => {
                 if !has_more {
-                    return Ok(count);
+                    return Ok(());
                 }
-                count += 1;
             }
             Err(fault) => return Err(fault),
         }
     }
-    Ok(count)
+    Ok(())
 }
 
 /// Takes the packets of ranges, which are sorted: whether the capture's end was read.
@@ -241,39 +225,13 @@ fn take_ranges<P: Allocator, A: Allocator + Copy, R: Read, B: Allocator, W: Writ
         × spec.Ends question.now.packets.now reader.old.left reader.new is_over)
         (λ fault. spec.Broke question.now reader.old.left reader.new (W.contents w.old) (W.contents w.new) fault) }
 {
-    let mut count = 0;
     for range in question.packets {
-        count = take_range(question, counted, reader, w, *range, count)?;
-        if count < range.last {
+        take_range(question, counted, reader, w, *range)?;
+        if reader.count() < range.last {
             return Ok(true);
         }
     }
     Ok(false)
-}
-
-/// Takes all packets.
-fn take_all<P: Allocator, A: Allocator + Copy, R: Read, B: Allocator, W: Write>(
-    question: &Question<'_, P>,
-    counted: &mut Counted<A>,
-    reader: &mut CaptureReader<R, B>,
-    w: &mut W,
-) -> Result<(), WhyFault>
-    requires count { reader.old.count ≡ 0 }
-    requires took { spec.Took question.now counted.old [] }
-    requires all { question.now.packets.now ≡ [] }
-    ensures { MatchResult result
-        (λ _. spec.Went question.now reader.old reader.new counted.new (W.contents w.old) (W.contents w.new)
-        × spec.IsOver reader.old.left reader.new)
-        (λ fault. spec.Broke question.now reader.old.left reader.new (W.contents w.old) (W.contents w.new) fault) }
-{
-    let all = PacketRange {
-        first: 1,
-        last: u64::MAX,
-    };
-    match take_range(question, counted, reader, w, all, 0) {
-        Ok(_) => Ok(()),
-        Err(fault) => Err(fault),
-    }
 }
 
 /// Takes the packets that are looked at: whether the capture's end was read.
@@ -291,7 +249,11 @@ pub(crate) fn take_packets<P: Allocator, A: Allocator + Copy, R: Read, B: Alloca
         (λ fault. spec.Broke question.now reader.old.left reader.new (W.contents w.old) (W.contents w.new) fault) }
 {
     if question.packets.is_empty() {
-        take_all(question, counted, reader, w)?;
+        let all = PacketRange {
+            first: 1,
+            last: u64::MAX,
+        };
+        take_range(question, counted, reader, w, all)?;
         return Ok(true);
     }
     take_ranges(question, counted, reader, w)

@@ -1,4 +1,4 @@
-use Rattle.std.proofs.Common.{◌≡◌, ◌<◌, ◌^◌, take}
+use Rattle.std.proofs.Common.{◌<◌, ◌^◌, take}
 use Rattle.std.specs.List.{All}
 use Rattle.cbpf_why.specs.Job.{Went}
 use Rattle.cbpf_why.proofs.RangeLemmas.{EndsBy}
@@ -6,8 +6,7 @@ use Rattle.cbpf_why.proofs.taking.take_ranges.Given as goal
 
 abbrev pub invariant-loop-range : goal.invariant-loop-range
 invariant-loop-range g l = record {
-  count : l.reader.count ≡ l.count;
-  few : l.count < 2 ^ 60;
+  few : l.reader.count < 2 ^ 60;
   went : Went l.question l.fn.reader l.reader l.counted (g.W.Write.contents l.fn.w) (g.W.Write.contents l.w);
-  ended : All (EndsBy l.count) (take l.range-index l.question.packets.now);
+  ended : All (EndsBy l.reader.count) (take l.range-index l.question.packets.now);
 }
