@@ -84,7 +84,7 @@ tried: built
 		echo "python3 bench/$$it.py --answers"; python3 bench/$$it.py --answers > /dev/null || exit; done
 	python3 tests/documents.py "$(PROGRAM)"
 
-bench: built ## Measures the program that is built beside its peers, and writes the tables of bench/README.md and bench/growth.svg.
+bench: built ## Measures the program that is built beside its peers, and writes the tables of bench/RESULTS.md and bench/growth.svg.
 	python3 bench/all.py
 
 check: looked-up ## The gate: proves all crates and their tests, tries the must-fail edits, runs all tests; from nothing 30 to 53 minutes on four processors, some 60 to 90 on two, later less, as only what changed and what stands above it is proved and tried.

@@ -1,5 +1,5 @@
 #!/usr/bin/env python3
-"""Runs the measures of this folder, and writes the tables of bench/README.md and the picture bench/growth.svg.
+"""Runs the measures of this folder, and writes the tables of bench/RESULTS.md and the picture bench/growth.svg.
 
 all.py [--times]: machine instructions, page faults, peak memory, and times by turns as ratios are written at any load
 of the machine, which the page names. Times alone are written only where the load is below 0.5 at first, or with
@@ -19,7 +19,7 @@ import time
 import session
 
 BENCH = pathlib.Path(__file__).resolve().parent
-PAGE = BENCH / "README.md"
+PAGE = BENCH / "RESULTS.md"
 QUIET = 0.5
 NUMBER = r"(-?[\d.,]+)"
 
