@@ -1,20 +1,22 @@
 #!/usr/bin/env python3
-"""Runs the examples of the documents over a built program, and checks the documents' links.
+"""Runs the examples of the documents over a built program, and checks the documents' links and their length.
 
 usage: documents.py PROGRAM [DOCUMENT..]
 
-The documents are README.md, CONTRIBUTING.md, docs/*.md and man/*.1; README.md, docs/REFERENCE.md and the pages have
-examples. In Markdown an example stands between ```console and ```, in the page between .Bd -literal and .Ed. A line that
-begins with `$ ` is a command, which `sh` runs in a copy of examples/, with completion/ and tools/ beside it, one for each
-document, in the locale C. PROGRAM is `cbpf` on the PATH, with cbpf-shell and cbpf-transcript beside it. The lines after the
-command are what it prints, on standard output and standard error. Where it takes the keyboard (`cbpf`, `cbpf dbg` or
-`.. cat) | cbpf`), they are a session: each line that is no reply is typed, and a block without a command goes on with it.
-Of cbpf-shell each line after the prompt `cbpf> ` is typed.
+The documents are README.md, CONTRIBUTING.md, docs/*.md, bench/*.md, crates/*/CALLING.md and man/*.1; README.md,
+docs/REFERENCE.md and the pages have examples. In Markdown an example stands between ```console and ```, in the page
+between .Bd -literal and .Ed. A line that begins with `$ ` is a command, which `sh` runs in a copy of examples/, with
+completion/ and tools/ beside it, one for each document, in the locale C. PROGRAM is `cbpf` on the PATH, with cbpf-shell
+and cbpf-transcript beside it. The lines after the command are what it prints, on standard output and standard error.
+Where it takes the keyboard (`cbpf`, `cbpf dbg` or `.. cat) | cbpf`), they are a session: each line that is no reply is
+typed, and a block without a command goes on with it. Of cbpf-shell each line after the prompt `cbpf> ` is typed.
 A line `..` stands for any lines. A command whose tool is missing, or may not do what it has to, isn't run; neither are its
 session, the commands after it in its block, and those that name a file which it makes by `> `.
 Each relative link of the Markdown documents names a file that is there, and what stands after `#` is the anchor of one of
 its headings. The lines of the picture of docs/ARCHITECTURE.md, in its block ```crates, lead down from each crate to those
 below it by crates.txt, directly or not.
+Where no DOCUMENT is named, it prints how many words each document has, as `wc -w` counts them, beside its budget. One
+that is a tenth above its budget fails: a new sentence takes another's place. So does one of docs/ that has no budget.
 The last line is `N passed, M failed`, and how many weren't run where there are such.
 """
 
@@ -46,6 +48,23 @@ TRIALS = {
     "bwrap": "bwrap --unshare-all --ro-bind / / true",
 }
 REQUIRED = [TOP / "README.md", TOP / "docs/REFERENCE.md", *sorted((TOP / "man").glob("*.1"))]
+OTHERS = ("CONTRIBUTING.md", "docs/*.md", "bench/*.md", "crates/*/CALLING.md")
+# How many words documents may have. Those of one line share its budget.
+BUDGETS = {
+    "README.md": 1500,
+    "docs/REFERENCE.md": 7000,
+    "docs/RECIPES.md": 3300,
+    "docs/KERNEL_TOOLS.md": 1900,
+    "docs/PACKAGING.md": 850,
+    "man/*.1": 3900,
+    "CHANGES.md": 1300,
+    "docs/ARCHITECTURE.md": 3200,
+    "CONTRIBUTING.md": 3900,
+    "docs/PROOF.md": 4000,
+    "docs/DECISIONS.md": 2300,
+    "docs/LIBRARIES.md crates/*/CALLING.md": 7000,
+    "bench/README.md": 750,
+}
 SECONDS = 60
 PROMPT = "cbpf> "
 SESSION = re.compile(r"(rlwrap .*)?cbpf( dbg)?|.*\bcat\) \| (rlwrap .*)?cbpf( dbg)?")
@@ -203,11 +222,27 @@ def crates_differ(path):
     return sorted(below(listed) ^ below(drawn_in(path)))
 
 
+def length_faults():
+    """What is too long, or has no budget. Prints the words of all documents."""
+    without = set((TOP / "docs").glob("*.md"))
+    for names, budget in BUDGETS.items():
+        files = [file for name in names.split() for file in TOP.glob(name)]
+        words = sum(len(file.read_text().split()) for file in files)
+        print(f"{names}: {words} of {budget} words")
+        if words > budget * 1.1:
+            yield f"{names}: {words} words, a tenth above {budget}"
+        without -= set(files)
+    yield from (f"{file.name}: no budget" for file in sorted(without))
+
+
 def main():
     if len(sys.argv) < 2:
         sys.exit(__doc__)
-    others = {TOP / "CONTRIBUTING.md", *(TOP / "docs").glob("*.md")} - set(REQUIRED)
+    others = {file for name in OTHERS for file in TOP.glob(name)} - set(REQUIRED)
     passed = failed = not_run = 0
+    for fault in () if sys.argv[2:] else length_faults():
+        failed += 1
+        print(f"failed {fault}")
     for path in [Path(name).resolve() for name in sys.argv[2:]] or [*REQUIRED, *sorted(others)]:
         faults = [f"no file or heading {target}" for target in broken_links(path)] if path.suffix == ".md" else []
         if path.name == "ARCHITECTURE.md":
