@@ -55,7 +55,9 @@ from sources import (
 )
 
 SUFFIXES = "rt antt edit md py sh txt asm dbg pcap pcapng words bash 1 c".split()
-SOURCES = "rt antt edit py sh bash words asm dbg 1 c".split()
+SOURCES = "rt antt edit py sh bash fish words asm dbg 1 c".split()
+# Sources whose names say nothing of their language.
+BARE_SOURCES = {"Makefile", "crates.txt", "cbpf-shell", "cbpf-transcript"}
 # Names of other people's files, what a build makes, and a placeholder.
 OUTSIDE = re.compile(r"[/~$]|linux/|Documentation/|PREFIX/|(crates/cbpf/)?out/|.*\bwhat_is_wrong\.edit$")
 # Calls and traits of the standard library that no source of ours writes.
@@ -82,7 +84,7 @@ def words():
     found = set()
     for path in all_paths():
         found |= {path.name, path.stem}
-        if path.suffix[1:] in SOURCES or path.name in ("Makefile", "crates.txt"):
+        if path.suffix[1:] in SOURCES or path.name in BARE_SOURCES:
             text = text_of(path)
             if path.suffix in (".rt", ".antt"):
                 text = re.sub(r"^\s*(//|--).*$", "", text, flags=re.M)
