@@ -32,16 +32,22 @@ define FILES
 644 CHANGES.md share/doc/cbpf/CHANGES.md
 644 docs/REFERENCE.md share/doc/cbpf/REFERENCE.md
 644 docs/KERNEL_TOOLS.md share/doc/cbpf/KERNEL_TOOLS.md
+644 docs/RECIPES.md share/doc/cbpf/RECIPES.md
 644 examples/arp.asm share/doc/cbpf/examples/arp.asm
 644 examples/arp.dbg share/doc/cbpf/examples/arp.dbg
 644 examples/icmp_sampling.asm share/doc/cbpf/examples/icmp_sampling.asm
 644 examples/ipv4_tcp.asm share/doc/cbpf/examples/ipv4_tcp.asm
+644 examples/keep.py share/doc/cbpf/examples/keep.py
 644 examples/mixed.pcap share/doc/cbpf/examples/mixed.pcap
 644 examples/port22.bpf share/doc/cbpf/examples/port22.bpf
 644 examples/port22.dbg share/doc/cbpf/examples/port22.dbg
+644 examples/seccomp.asm share/doc/cbpf/examples/seccomp.asm
+644 examples/seccomp.sh share/doc/cbpf/examples/seccomp.sh
 644 examples/two-packets.pcap share/doc/cbpf/examples/two-packets.pcap
 644 examples/two-packets.pcapng share/doc/cbpf/examples/two-packets.pcapng
 644 examples/vlan.asm share/doc/cbpf/examples/vlan.asm
+644 examples/vlan10.asm share/doc/cbpf/examples/vlan10.asm
+644 examples/words.c share/doc/cbpf/examples/words.c
 endef
 export FILES
 

@@ -4,12 +4,12 @@
 usage: documents.py PROGRAM [DOCUMENT..]
 
 The documents are README.md, CONTRIBUTING.md, docs/*.md, bench/*.md, crates/*/CALLING.md and man/*.1; README.md,
-docs/REFERENCE.md and the pages have examples. In Markdown an example stands between ```console and ```, in the page
-between .Bd -literal and .Ed. A line that begins with `$ ` is a command, which `sh` runs in a copy of examples/, with
-completion/ and tools/ beside it, one for each document, in the locale C. PROGRAM is `cbpf` on the PATH, with cbpf-shell
-and cbpf-transcript beside it. The lines after the command are what it prints, on standard output and standard error.
-Where it takes the keyboard (`cbpf`, `cbpf dbg` or `.. cat) | cbpf`), they are a session: each line that is no reply is
-typed, and a block without a command goes on with it. Of cbpf-shell each line after the prompt `cbpf> ` is typed.
+docs/RECIPES.md, docs/REFERENCE.md and the pages have examples. In Markdown an example stands between ```console and ```,
+in the page between .Bd -literal and .Ed. A line that begins with `$ ` is a command, which `sh` runs in a copy of
+examples/, with completion/ and tools/ beside it, one for each document, in the locale C. PROGRAM is `cbpf` on the PATH,
+with cbpf-shell and cbpf-transcript beside it. The lines after the command are what it prints, on standard output and
+standard error. Where it takes the keyboard (`cbpf`, `cbpf dbg` or `.. cat) | cbpf`), they are a session: each line that is
+no reply is typed, and a block without a command goes on with it. Of cbpf-shell each line after the prompt `cbpf> ` is typed.
 A line `..` stands for any lines. A command whose tool is missing, or may not do what it has to, isn't run; neither are its
 session, the commands after it in its block, and those that name a file which it makes by `> `.
 Each relative link of the Markdown documents names a file that is there, and what stands after `#` is the anchor of one of
@@ -30,10 +30,7 @@ from functools import cache
 from pathlib import Path
 
 TOP = Path(__file__).resolve().parent.parent
-TOOLS = (
-    "tcpdump rlwrap gzip grep head tail yes tr seq sed awk xargs mkfifo diff"
-    " timeout cpp cc ss tc unshare setpriv bwrap bash editcap mergecap tshark text2pcap vim dot parallel xxd"
-)
+TOOLS = "tcpdump gzip grep head tail tr sed awk xargs diff timeout cpp cc ss unshare editcap tshark"
 # What some need beside being there: headers, or rights that a user may not have.
 TRIALS = {
     "cpp": "echo | cpp -imacros linux/if_ether.h",
@@ -41,13 +38,9 @@ TRIALS = {
     # A filter that is listed: ss says nothing of one where the kernel doesn't tell.
     "ss": "unshare -n sh -c 'ip link set lo up; tcpdump -i lo -w /dev/null arp & for n in 1 2 3 4 5; do sleep 1; "
     "ss -0b | grep -q \"bpf filter\" && found=yes && break; done; kill $!; test $found'",
-    "tc": "unshare -n sh -c 'tc qdisc add dev lo clsact && "
-    "tc filter add dev lo ingress bpf bytecode \"1,6 0 0 0\" flowid 1:1'",
     "unshare": "unshare -n true",
-    "setpriv": "setpriv --reuid=nobody --regid=nogroup --clear-groups true",
-    "bwrap": "bwrap --unshare-all --ro-bind / / true",
 }
-REQUIRED = [TOP / "README.md", TOP / "docs/REFERENCE.md", *sorted((TOP / "man").glob("*.1"))]
+REQUIRED = [TOP / "README.md", TOP / "docs/RECIPES.md", TOP / "docs/REFERENCE.md", *sorted((TOP / "man").glob("*.1"))]
 OTHERS = ("CONTRIBUTING.md", "docs/*.md", "bench/*.md", "crates/*/CALLING.md")
 # How many words documents may have. Those of one line share its budget.
 BUDGETS = {

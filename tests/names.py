@@ -63,7 +63,7 @@ OUTSIDE = re.compile(r"[/~$]|linux/|Documentation/|PREFIX/|(crates/cbpf/)?out/|.
 # Calls and traits of the standard library that no source of ours writes.
 STANDARD = set("grow shrink cmp partial_cmp madvise Display".split())
 # Documents of what users type, in which a name needn't be one of the sources.
-OF_USERS = {"REFERENCE.md", "KERNEL_TOOLS.md", "PACKAGING.md"}
+OF_USERS = {"REFERENCE.md", "RECIPES.md", "KERNEL_TOOLS.md", "PACKAGING.md"}
 CODE_SPAN = re.compile(r"(?<!`)`([^`]+)`(?!`)")
 NAME = re.compile(r"[A-Za-z_][\w]*(?:(?:::|\.)[A-Za-z_]\w*)*(?:\(.*\))?")
 
