@@ -336,7 +336,7 @@ EXTENSION_LISTS = {
     "crates/cbpf_command_line/src/parse.rt": 1,
     "crates/cbpf_command_line/src/why.rt": 1,
     "docs/REFERENCE.md": 2,
-    "man/cbpf.1": 3,
+    "man/cbpf.1": 2,
 }
 
 
