@@ -1,6 +1,6 @@
 //! The bytes that were read from a reader and not yet taken, and where they stand in its file.
 
-ghost use Rattle.std.specs.Prelude.{◌≡◌, ◌<◌, ◌≤◌, ◌+◌, ◌-◌, ◌^◌, [], length, take, drop, slice_range, true, false, vec_len};
+ghost use Rattle.std.specs.Prelude.{◌≡◌, ◌<◌, ◌≤◌, ◌+◌, ◌-◌, ◌*◌, ◌^◌, min, [], length, take, drop, slice_range, true, false, vec_len};
 ghost use Rattle.std.specs.Prelude.{IfOk, OnOk, OnErr, IsErrOf};
 ghost use Rattle.std.specs.Io.KnownBytes.{Keeps, Consumes, IsAtEnd, prepend_known};
 ghost use Rattle.pcap_classic.specs.declared.reading.ReadFault.TheVariants.{Memory};
@@ -16,8 +16,8 @@ const ROOM: usize = 0x20000;
 
 /// The bytes that were read and not yet taken, which contracts see as the list of them and the offset where they stand.
 ///
-/// There is room for 128 kB at first. It grows only once it is full, to twice the bytes that came, or to those that are
-/// needed if they are fewer.
+/// There is room for 128 kB at first. It grows only once it is full, to twice the bytes that it holds, or to those that are
+/// needed if they are fewer. So there is never room for more than 128 kB, or twice the bytes that came.
 #[derive(Drop)]
 pub(crate) struct Window<A: Allocator> {
     /// They stand from `start` on, up to `end`.
@@ -29,7 +29,7 @@ pub(crate) struct Window<A: Allocator> {
 }
 
 impl<A: Allocator> Model for Window<A> {
-    ghost use Rattle.std.specs.Prelude.{◌≤◌, ◌<◌, ◌+◌, ◌^◌, slice_range, vec_len};
+    ghost use Rattle.std.specs.Prelude.{◌≤◌, ◌<◌, ◌+◌, ◌*◌, ◌^◌, max, slice_range, vec_len};
     ghost use Rattle.pcap_classic.specs.Reading.{Unread};
     ghost use Rattle.pcap_classic.specs.declared.window.TheConstants.{ROOM};
 
@@ -38,7 +38,7 @@ impl<A: Allocator> Model for Window<A> {
     ghost view = { λ w. record { offset = w.base + w.start; bytes = slice_range w.buf.items w.start w.end } };
 
     ghost invariant = { λ w. (w.start ≤ w.end) × (w.end ≤ vec_len w.buf) × (ROOM ≤ vec_len w.buf)
-        × (w.base + w.end < 2 ^ 64) };
+        × (vec_len w.buf ≤ max ROOM (2 * (w.base + w.end))) × (w.base + w.end < 2 ^ 64) };
 }
 
 /// Moves the bytes from `start` up to `end` to the front.
@@ -63,9 +63,9 @@ fn make_room<A: Allocator>(
     requires more { len < needed }
     requires room { ROOM ≤ vec_len buf.old }
     ensures same { take len buf.new.items ≡ take len buf.old.items }
-    ensures room { OnOk result (len < vec_len buf.new) }
-    ensures kept { vec_len buf.old ≤ vec_len buf.new }
-    ensures refused { OnErr result (vec_len buf.old ≤ len) }
+    ensures stays { len < vec_len buf.old → vec_len buf.new ≡ vec_len buf.old }
+    ensures grows { vec_len buf.old ≡ len → OnOk result (vec_len buf.new ≡ min needed (2 * len)) }
+    ensures refused { OnErr result ((vec_len buf.old ≡ len) × (vec_len buf.new ≡ len)) }
 {
     if len < buf.len() {
         return Ok(());

@@ -11,7 +11,7 @@ returns-in-WholeRecord g c =
     let starts : c.offset-start.result ≡ w.window.offset + w.last =
     omega (arith, c.fill_record.ensures.place, c.take.ensures.place, c.offset-start.ensures.value) in
     let is : record_of item ≡ record_at w.header.magic.order (w.count + 1) (w.window.offset + w.last)
-        c.fill_record.new.window.bytes = rw (c.as_slice-bytes.ensures, starts) at c.front_record.ensures in
+    c.fill_record.new.window.bytes = rw (c.as_slice-bytes.ensures, starts) at c.front_record.ensures in
     let few : w.count + 1 < 2 ^ 60 = omega (arith, c.self.invariant, starts, c.offset-start.ensures.bound) in
     rw (← c.self.view_is) (
       (
