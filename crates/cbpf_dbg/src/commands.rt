@@ -8,6 +8,7 @@ ghost use Rattle.cbpf_code.specs.Writing.{Wrote};
 ghost use Rattle.cbpf_reply.specs.declared.reply.Stop.{Stop as AStop};
 ghost use Rattle.cbpf_dbg.specs.Commands as spec;
 ghost use Rattle.cbpf_dbg.specs.Shown as shown;
+ghost use Rattle.cbpf_machine.specs.declared.trail.TheConstants.{MOST_TURNS_BACK};
 
 use crate::cursor::{Cursor, Walk, stop_at};
 use crate::loaded::Loaded;
@@ -159,7 +160,7 @@ impl<T: Trail, A: Allocator> Session<T, A> {
     ///
     /// The meter has spent at most 2 to the 127 before; on the way forward it rises by one for each entry that is
     /// passed, from the place's own on, and on the way back by what the trail takes to go back to the entry, which is
-    /// at most its `most_turns_back`. A refusal makes no turn.
+    /// at most `MOST_TURNS_BACK`, which is 63. A refusal makes no turn.
     ///
     /// # Errors
     ///
@@ -171,7 +172,7 @@ impl<T: Trail, A: Allocator> Session<T, A> {
         ensures after { self.new ≡ spec.view_after self.old (spec.step self.old n) }
         ensures turns { pos 0 <ℤ n → meter.new ≡ meter.old + spec.turns_forward self.old (spec.step self.old n) }
         ensures counts { meter.old ≤ meter.new }
-        ensures back { n <ℤ pos 0 → meter.new ≤ meter.old + T.most_turns_back }
+        ensures back { n <ℤ pos 0 → meter.new ≤ meter.old + MOST_TURNS_BACK }
         ensures back_turns { n <ℤ pos 0 → OnOk result (meter.new ≡ meter.old + T.turns_back self.new.place.step) }
         ensures refused { OnErr result (meter.new ≡ meter.old) }
         ensures shown { IfOk result (λ reply. Shows self.new reply) }

@@ -17,7 +17,9 @@ mod stops;
 mod watching;
 
 pub use cbpf_code::{Ext, Program, WriteFault};
-pub use cbpf_machine::{ListTrail, MarkTrail, Meter, Packet, State, Trail, Values};
+pub use cbpf_machine::{
+    ListTrail, MOST_TURNS_BACK, MarkTrail, Meter, Packet, State, Trail, Values,
+};
 pub use cbpf_reply::{Counts, Place, RunReply, SessionFault, Stop, When, Why};
 pub use law::rising_places;
 pub use pcap_classic::Capture;

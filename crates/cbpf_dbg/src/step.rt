@@ -12,6 +12,7 @@ ghost use Rattle.cbpf_dbg.specs.Going.{KeepsIn};
 ghost use Rattle.cbpf_dbg.specs.Session.{IsInside};
 ghost use Rattle.cbpf_dbg.specs.Cursor.{Stands, AreLeft, Nears, GoesOnBy, GoesOut, owed};
 ghost use Rattle.cbpf_dbg.specs.Cursor.{RepliesBy, step_from, turns_of, StepsBack, CannotStepBack};
+ghost use Rattle.cbpf_machine.specs.declared.trail.TheConstants.{MOST_TURNS_BACK};
 
 use crate::cursor::{Cursor, Moved, Walk, stop_at};
 use crate::loaded::Loaded;
@@ -215,7 +216,7 @@ pub(crate) fn step_back<T: Trail, A: Allocator>(
         → IsInside (records_in loaded.now) cursor.new.place }
     ensures counts { meter.old ≤ meter.new }
     ensures turns { OnOk result (meter.new ≡ meter.old + T.turns_back cursor.new.place.step) }
-    ensures few { meter.new ≤ meter.old + T.most_turns_back }
+    ensures few { meter.new ≤ meter.old + MOST_TURNS_BACK }
     ensures refused { OnErr result (meter.new ≡ meter.old) }
 {
     if b >= u64::from(cursor.place.step) {

@@ -42,6 +42,6 @@ pub use pause::{Before, Never, Pause, Watched, When};
 pub use state::{Core, State};
 pub use tally::{Runs, Tally};
 pub use task::Task;
-pub use trail::Trail;
+pub use trail::{MOST_TURNS_BACK, Trail};
 pub use values::Values;
 pub use whole_packet::{outcome_of, run_packet};
