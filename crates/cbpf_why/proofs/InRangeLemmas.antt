@@ -8,7 +8,7 @@ use Rattle.std.proofs.lemmas.List.Sums.{length-filter, count_by-le-length}
 use Rattle.std.proofs.lemmas.Grind.{flat_map-append}
 use Rattle.cbpf_code.proofs.WrittenLemmas.{appended-then, part-then}
 use Rattle.pcap_classic.specs.Records.{Record}
-use Rattle.cbpf_why.specs.Job.{Took, TookFromKnown, Going, RangeFault, Ranged, Closed, Stopped, Stepped, StepFault, LeavesKnown, from_first}
+use Rattle.cbpf_why.specs.Job.{HasCause, Took, TookFromKnown, Going, RangeFault, Ranged, Closed, Stopped, Stepped, StepFault, LeavesKnown, from_first}
 use Rattle.cbpf_why.specs.Question.{machine_in}
 use Rattle.cbpf_why.specs.Reports.{packet_text, packets_text}
 use Rattle.cbpf_why.specs.declared.chosen.PacketRange.{PacketRange}
@@ -89,6 +89,13 @@ range-goes q first records old mid new c d u v w going step = record {
       (appended-then _ _ _ _ _ going.wrote step.wrote);
 }
 
+cause_known : (fault : WhyFault) (first : ℕ) (old mid : Option Savefile) (new : Reading) (before after : ℕ)
+    (more : List Record) → TookFromKnown first old mid before after more → HasCause fault mid new → HasCause fault old new
+cause_known Write first old mid new before after more reads h = tt
+cause_known why.Read first old mid new before after more reads h = tt
+cause_known why.Memory first None mid new before after more reads h = tt
+cause_known why.Memory first (Some s) mid new before after more reads h = rw reads.1 at h
+
 pub range-fails : {A P : Type 0} (q : Question P) (range : PacketRange) (records : List Record) (old mid new : Reading)
     (c : Counted A) (u v w : Option (List ℕ)) (fault : WhyFault) → Going q range.first records old mid c u v
     → mid.count < range.last → StepFault q range.first mid new v w fault → RangeFault q range old new u w fault
@@ -97,6 +104,7 @@ range-fails q range records old mid new c u v w fault going below step = record 
   up_to = λ h. omega (arith, below, step.is_few, step.count);
   reads = rw step.count (known_any range.first old.left mid.left new.left old.count mid.count going.more step.one
       going.reads step.leaves step.is_few);
+  cause = cause_known fault range.first old.left mid.left new old.count mid.count going.more going.reads step.cause;
   stopped = rw (flat_map-append (packet_text q.report (machine_in q)) going.more (from_first range.first step.one))
       (stopped_more fault u v w (packets_text q.report (machine_in q) going.more) _ going.wrote step.stopped);
 }

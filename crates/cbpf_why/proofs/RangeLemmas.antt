@@ -15,7 +15,7 @@ use Rattle.pcap_classic.specs.Reading.{Reading}
 use Rattle.pcap_classic.specs.Records.{Record}
 use Rattle.pcap_classic.specs.Savefile.{Savefile}
 use Rattle.cbpf_why.specs.Chosen.{AreSorted, chosen, is_chosen, is_within}
-use Rattle.cbpf_why.specs.Job.{Broke, RangeFault, IsOver, Looked, LookedKnown, Ranged, TookFrom, TookFromKnown, Stopped, Took, Went}
+use Rattle.cbpf_why.specs.Job.{Broke, HasCause, RangeFault, IsOver, Looked, LookedKnown, Ranged, TookFrom, TookFromKnown, Stopped, Took, Went}
 use Rattle.cbpf_why.specs.Question.{machine_in}
 use Rattle.cbpf_why.specs.Reports.{ends_beyond, goes_to_end, packet_text, packets_text}
 use Rattle.cbpf_why.specs.declared.chosen.PacketRange.{PacketRange}
@@ -62,7 +62,7 @@ none_before [] i range count n sorted at ended above below = refl
 none_before (x ∷ xs) zero range count n sorted at ended above below =
     let same : x ≡ range = cc in
     let first : n < x.first = rw same below in
-    rw (outside n x first) (none_below n x.first xs sorted.0 first)
+    rw (outside n x first) (none_below n x.first xs (λ k d l. (sorted.0 k d l).0) first)
 none_before (x ∷ xs) (suc i) range count n sorted at ended above below =
     rw (beyond count n x (ended 0 x (omega arith)) above)
     (none_before xs i range count n sorted.1 at (rest_of (EndsBy count) x (take i xs) ended) above below)
@@ -179,12 +179,20 @@ known_more ranges i range (Some s) mid new before after records more sorted at e
 
 -- ---- what was taken
 
+cause_known : (fault : WhyFault) (ranges : List PacketRange) (old mid : Option Savefile) (new : Reading) (count : ℕ)
+    (records : List Record) → LookedKnown ranges old mid count records → HasCause fault mid new → HasCause fault old new
+cause_known why.Write ranges old mid new count records known h = tt
+cause_known why.Read ranges old mid new count records known h = tt
+cause_known why.Memory ranges None mid new count records known h = tt
+cause_known why.Memory ranges (Some s) mid new count records known h = rw known.1 at h
+
 pub went-nothing : {A P : Type 0} (q : Question P) (old : Reading) (c : Counted A) (w : Option (List ℕ)) → Took q c []
     → old.count ≡ 0 → Appended w w [] → Went q old old c w w
 went-nothing q old c w took count nothing = record {
   records = [];
   took = took;
   few = omega arith;
+  within = λ n ends. omega (arith, count);
   known = rw count (starts q.packets.now old.left);
   wrote = nothing;
 }
@@ -197,11 +205,23 @@ module _ {A P : Type 0} (q : Question P) (i : ℕ) (range : PacketRange) (old mi
     (c d : Counted A) (u v w : Option (List ℕ)) (sorted : AreSorted q.packets.now)
     (at : slice_get q.packets.now i ≡ Some range) (ended : All (EndsBy mid.count) (take i q.packets.now))
     (went : Went q old mid c u v) where
+  by_last : (n : ℕ) → goes_to_end q.packets.now n ≡ false → (mid.count < new.count → new.count ≤ range.last)
+      → new.count ≤ n
+  by_last n ends up_to =
+      let same = ap (λ (r : PacketRange). r.last) (get_or_from_slice_get q.packets.now i range range at) in
+      let most = all-end q.packets.now n (sym ends) i range (slice_get_within q.packets.now i range at) in
+      let before = went.within n ends in
+      elim (cases_lt mid.count new.count) [
+        | inl more ↦ (let last = up_to more in omega (arith, last, same, most))
+        | inr none ↦ omega (arith, none, before)
+      ]
+
   pub went-more : Ranged q range went.records mid new d v w → Went q old new d u w
   went-more ranged = record {
     records = went.records ++ ranged.going.more;
     took = ranged.going.took;
     few = ranged.going.few;
+    within = λ n ends. by_last n ends ranged.up_to;
     known = known_more q.packets.now i range old.left mid.left new.left mid.count new.count went.records
         ranged.going.more sorted at ended ranged.up_to went.known ranged.going.reads;
     wrote = rw (flat_map-append (packet_text q.report (machine_in q)) went.records ranged.going.more)
@@ -211,8 +231,10 @@ module _ {A P : Type 0} (q : Question P) (i : ℕ) (range : PacketRange) (old mi
   pub broke-more : (fault : WhyFault) → RangeFault q range mid new v w fault → Broke q old.left new u w fault
   broke-more fault faulted = record {
     records = went.records ++ faulted.more;
+    within = λ n ends. by_last n ends faulted.up_to;
     known = known_more q.packets.now i range old.left mid.left new.left mid.count new.count went.records
         faulted.more sorted at ended faulted.up_to went.known faulted.reads;
+    cause = cause_known fault q.packets.now old.left mid.left new mid.count went.records went.known faulted.cause;
     stopped = rw (flat_map-append (packet_text q.report (machine_in q)) went.records faulted.more)
         (stopped_more fault u v w (packets_text q.report (machine_in q) went.records) _ went.wrote faulted.stopped);
   }
@@ -255,6 +277,9 @@ known_all : (old new : Option Savefile) (after : ℕ) (more : List Record) → T
 known_all None new after more reads = tt
 known_all (Some s) new after more reads = (reads.0, reads.1, looked_all s reads.0 after more reads.2)
 
+no_ranges : {X : Type 0} (n : ℕ) → goes_to_end [] n ≡ false → X
+no_ranges n ends = absurd cc
+
 pub went-all : {A P : Type 0} (q : Question P) (last : ℕ) (old new : Reading) (d : Counted A) (u w : Option (List ℕ))
     → old.count ≡ 0 → q.packets.now ≡ [] → Ranged q (record { first = 1; last = last }) [] old new d u w
     → Went q old new d u w
@@ -262,6 +287,7 @@ went-all q last old new d u w none all ranged = record {
   records = ranged.going.more;
   took = ranged.going.took;
   few = ranged.going.few;
+  within = λ n ends. no_ranges n (rw all at ends);
   known = rw all (known_all old.left new.left new.count ranged.going.more (rw none at ranged.going.reads));
   wrote = ranged.going.wrote;
 }
@@ -271,6 +297,8 @@ pub broke-all : {P : Type 0} (q : Question P) (last : ℕ) (old new : Reading) (
     → Broke q old.left new u w fault
 broke-all q last old new u w fault none all faulted = record {
   records = faulted.more;
+  within = λ n ends. no_ranges n (rw all at ends);
   known = rw all (known_all old.left new.left new.count faulted.more (rw none at faulted.reads));
+  cause = faulted.cause;
   stopped = faulted.stopped;
 }

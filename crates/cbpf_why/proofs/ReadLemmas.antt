@@ -7,7 +7,7 @@ use Rattle.pcap_classic.specs.Savefile.{Savefile}
 use Rattle.cbpf_why.specs.declared.counted.Counted.{Counted}
 use Rattle.cbpf_why.specs.declared.question.Question.{Question}
 use Rattle.pcap_classic.specs.Records.{Record}
-use Rattle.cbpf_why.specs.Job.{Took, TookFrom, Stepped, StepFault, LeavesKnown, from_first}
+use Rattle.cbpf_why.specs.Job.{HasCause, Took, TookFrom, Stepped, StepFault, LeavesKnown, from_first}
 use Rattle.cbpf_why.specs.Question.{machine_in}
 use Rattle.cbpf_why.specs.Reports.{packet_text}
 use Rattle.cbpf_why.specs.declared.job.WhyFault.TheVariants.{Write}
@@ -111,6 +111,7 @@ module _ {A P : Type 0} (q : Question P) (first : ℕ) (records : List Record) (
         is_few = omega arith;
         count = goes.1;
         leaves = leaves_some old.count old.left new item goes.0 gives;
+        cause = tt;
         stopped = rw (some, append-nil (packet_text q.report (machine_in q) (record_of item))) part;
       }
 
@@ -132,6 +133,11 @@ kept_memory : (o : Option Savefile) (new : Reading) → IfSome o (λ s. Gives s 
     → IfSome o (λ s. new.left ≡ Some s)
 kept_memory None new h = tt
 kept_memory (Some s) new h = h.0
+
+needs_room : (o : Option Savefile) (new : Reading) → IfSome o (λ s. Gives s (Err Memory) new)
+    → HasCause why.Memory o new
+needs_room None new h = tt
+needs_room (Some s) new h = rw h.0 h.1
 
 module _ {A P : Type 0} (q : Question P) (first : ℕ) (old new : Reading) (u v : Option (List ℕ)) (nothing : Appended u v []) where
   -- there was no record
@@ -157,6 +163,7 @@ module _ {P : Type 0} (q : Question P) (first : ℕ) (old new : Reading) (u v : 
     is_few = omega arith;
     count = omega (arith, goes.0);
     leaves = leaves_none old.count old.left new (kept_read old.left new e gives);
+    cause = tt;
     stopped = nothing;
   }
 
@@ -167,6 +174,7 @@ module _ {P : Type 0} (q : Question P) (first : ℕ) (old new : Reading) (u v : 
     is_few = omega arith;
     count = omega (arith, goes.0);
     leaves = leaves_none old.count old.left new (kept_memory old.left new gives);
+    cause = needs_room old.left new gives;
     stopped = nothing;
   }
 
@@ -182,5 +190,6 @@ stepped_unflushed q first old u v part = record {
   is_few = omega arith;
   count = omega arith;
   leaves = leaves_none old.count old.left old (stays old.left);
+  cause = tt;
   stopped = part;
 }

@@ -1,7 +1,7 @@
 -- What a report has written at its end, or where a fault came.
 use Rattle.std.proofs.Common.{◌≡◌, ℕ, suc, subst, ◌≤◌, List, [], ◌∷◌, ◌++◌, length, arith, refl, sym, ap, ◌∙◌}
-use Rattle.std.proofs.Common.{length-append, append-nil}
-use Rattle.std.specs.Prelude.{Bool, true, false, Option, Some, None, Ok, Err, filter, slice_get, take, IfSome, if◌then◌else◌}
+use Rattle.std.proofs.Common.{inl, inr, length-append, append-nil}
+use Rattle.std.specs.Prelude.{Bool, true, false, Option, Some, None, Result, Ok, Err, MatchResult, filter, slice_get, drop, take, IfSome, if◌then◌else◌}
 use Rattle.std.specs.Option.{option_map}
 use Rattle.std.specs.List.{All}
 use Rattle.std.specs.Io.KnownBytes.{Keeps as KeepsBytes}
@@ -14,16 +14,16 @@ use Rattle.pcap_classic.specs.Reading.{Reading}
 use Rattle.pcap_classic.specs.Records.{AreNumbered, Record}
 use Rattle.pcap_classic.specs.Savefile.{Savefile}
 use Rattle.cbpf_why.specs.Chosen.{chosen, is_chosen}
-use Rattle.cbpf_why.specs.Job.{Broke, Closed, Ends, Looked, LookedKnown, Stopped, Went}
+use Rattle.cbpf_why.specs.Job.{Broke, Closed, HasCause, Ends, Looked, LookedKnown, Stopped, Went}
 use Rattle.cbpf_why.specs.Question.{machine_in}
-use Rattle.cbpf_why.specs.Reports.{Reported, WroteFront, capture_end, closing_text, end_after, end_read, goes_to_end, packet_text, packets_text, report_text, shown_end}
+use Rattle.cbpf_why.specs.Reports.{IsLeft, IsWithin, Reported, WroteFront, capture_end, closing_text, end_after, end_read, goes_to_end, packet_text, packets_text, report_text, shown_end}
 use Rattle.cbpf_why.specs.declared.chosen.PacketRange.{PacketRange}
 use Rattle.cbpf_why.specs.declared.counted.Counted.{Counted}
 use Rattle.cbpf_why.specs.declared.question.Question.{Question}
 use Rattle.cbpf_why.specs.declared.job.CaptureEnd.{CaptureEnd}
 use Rattle.cbpf_why.specs.declared.job.WhyFault.{WhyFault}
 use Rattle.cbpf_why.specs.declared.job.WhyFault.TheVariants as why
-use Rattle.cbpf_why.specs.declared.report.Report.{Report}
+use Rattle.cbpf_why.specs.declared.report.Report.{Report, TheVariants.Graph}
 use Rattle.cbpf_why.proofs.RangeLemmas.{EndsBy, all-end, asks-no-end, ends-later, none_above}
 
 -- ---- the records that were not read
@@ -43,6 +43,10 @@ take_front : (xs ys : List Record) → take (length xs) (xs ++ ys) ≡ xs
 take_front [] [] = refl
 take_front [] (y ∷ ys) = refl
 take_front (x ∷ xs) ys = ap (λ l. x ∷ l) (take_front xs ys)
+
+drop_front : (xs ys : List Record) → drop (length xs) (xs ++ ys) ≡ ys
+drop_front [] ys = refl
+drop_front (x ∷ xs) ys = drop_front xs ys
 
 module _ (ranges : List PacketRange) (c rest : Savefile) (count : ℕ) (records : List Record)
     (looked : Looked ranges c rest count records) where
@@ -72,6 +76,9 @@ module _ (ranges : List PacketRange) (c rest : Savefile) (count : ℕ) (records 
 
   same_ending : c.ending ≡ rest.ending
   same_ending = ap (λ (s : Savefile). s.ending) looked.split
+
+  rests : drop count c.records ≡ rest.records
+  rests = ap (drop count) records_are ∙ rw looked.counted (drop_front looked.front rest.records)
 
   fronts : take count c.records ≡ looked.front
   fronts = ap (take count) records_are ∙ rw looked.counted (take_front looked.front rest.records)
@@ -143,6 +150,30 @@ finished_by report m (x ∷ xs) (Some c) new records false known ends numbered =
     let follows = rw known.1 at numbered in
     finished_before report m x xs c known.0 new records known.2 follows ends.asked
 
+-- what is left of the capture, and how many of its packets were read at most
+left_by : (ranges : List PacketRange) (o : Option Savefile) (new : Reading) (records : List Record)
+    → LookedKnown ranges o new.left new.count records → IfSome o (λ c. IsLeft c new)
+left_by ranges None new records known = tt
+left_by ranges (Some c) new records known =
+    let rest = known.0 in
+    let same : record c { records = drop new.count c.records } ≡ rest =
+    ap (λ (l : List Record). record c { records = l }) (rests ranges c rest new.count records known.2)
+    ∙ ap (λ (s : Savefile). record s { records = rest.records }) known.2.split in
+    known.1 ∙ ap Some (sym same)
+
+module _ {A P : Type 0} (q : Question P) (old new : Reading) (c : Counted A) (w v : Option (List ℕ)) where
+  pub left_after : (r : Result Bool WhyFault)
+      → MatchResult r (λ is_over. Went q old new c w v × Ends q.packets.now old.left new is_over)
+      (λ fault. Broke q old.left new w v fault) → IfSome old.left (λ s. IsLeft s new)
+  left_after (Ok is_over) h = left_by q.packets.now old.left new h.0.records h.0.known
+  left_after (Err fault) h = left_by q.packets.now old.left new h.records h.known
+
+  pub within_after : (r : Result Bool WhyFault)
+      → MatchResult r (λ is_over. Went q old new c w v × Ends q.packets.now old.left new is_over)
+      (λ fault. Broke q old.left new w v fault) → IsWithin q.packets.now new.count
+  within_after (Ok is_over) h = h.0.within
+  within_after (Err fault) h = h.within
+
 -- ---- what a report leaves
 
 front_part : (report : Report) (ranges : List PacketRange) (m : Machine) (c rest : Savefile) (count : ℕ)
@@ -167,22 +198,28 @@ wrote_front report ranges m c rest count records u w looked wrote = record {
       rw are at wrote;
 }
 
-broke_by : (report : Report) (ranges : List PacketRange) (m : Machine) (o new : Option Savefile) (count : ℕ)
-    (records : List Record) (u w : Option (List ℕ)) (fault : WhyFault) → LookedKnown ranges o new count records
-    → Stopped fault u w (packets_text report m records) → IfSome o (λ c. Reported report ranges m c count u w (Err fault))
-broke_by report ranges m None new count records u w fault known stopped = tt
-broke_by report ranges m (Some c) new count records u w why.Write known stopped =
-    front_part report ranges m c known.0 count records u w known.2 stopped
-broke_by report ranges m (Some c) new count records u w why.Read known stopped =
-    wrote_front report ranges m c known.0 count records u w known.2 stopped
-broke_by report ranges m (Some c) new count records u w why.Memory known stopped =
-    wrote_front report ranges m c known.0 count records u w known.2 stopped
+broke_by : (report : Report) (ranges : List PacketRange) (m : Machine) (o : Option Savefile) (new : Reading)
+    (records : List Record) (u w : Option (List ℕ)) (fault : WhyFault) → LookedKnown ranges o new.left new.count records
+    → HasCause fault o new → Stopped fault u w (packets_text report m records)
+    → IfSome o (λ c. Reported report ranges m c new.count u w (Err fault))
+broke_by report ranges m None new records u w fault known cause stopped = tt
+broke_by report ranges m (Some c) new records u w why.Write known cause stopped =
+    front_part report ranges m c known.0 new.count records u w known.2 stopped
+broke_by report ranges m (Some c) new records u w why.Read known cause stopped =
+    wrote_front report ranges m c known.0 new.count records u w known.2 stopped
+broke_by report ranges m (Some c) new records u w why.Memory known cause stopped =
+    let looked = known.2 in
+    let needs = rw known.1 at cause in (
+      wrote_front report ranges m c known.0 new.count records u w looked stopped,
+      inl (inr (rw (rests ranges c known.0 new.count records looked, same_ending ranges c known.0 new.count records looked)
+          needs)),
+    )
 
 pub broke : {P : Type 0} (q : Question P) (old : Option Savefile) (new : Reading) (u w : Option (List ℕ)) (fault : WhyFault)
     → Broke q old new u w fault
     → IfSome old (λ c. Reported q.report q.packets.now (machine_in q) c new.count u w (Err fault))
 broke q old new u w fault h =
-    broke_by q.report q.packets.now (machine_in q) old new.left new.count h.records u w fault h.known h.stopped
+    broke_by q.report q.packets.now (machine_in q) old new h.records u w fault h.known h.cause h.stopped
 
 take_none : (xs : List Record) → take 0 xs ≡ []
 take_none [] = refl
@@ -192,27 +229,32 @@ take_none (x ∷ xs) = refl
 pub unstarted : (report : Report) (ranges : List PacketRange) (m : Machine) (o : Option Savefile) (w : Option (List ℕ))
     (count : ℕ) → count ≡ 0 → IfSome o (λ c. Reported report ranges m c count w w (Err why.Memory))
 unstarted report ranges m None w count is = tt
-unstarted report ranges m (Some c) w count is = record {
-  few = omega (arith, is);
-  wrote =
-      let none : take count c.records ≡ [] = ap (λ (n : ℕ). take n c.records) is ∙ take_none c.records in
-      subst (λ (l : List Record). Appended w w (packets_text report m (chosen ranges l))) (sym none) (appended-nil w);
-}
+unstarted report ranges m (Some c) w count is = (
+  record {
+    few = omega (arith, is);
+    wrote =
+        let none : take count c.records ≡ [] = ap (λ (n : ℕ). take n c.records) is ∙ take_none c.records in
+        subst (λ (l : List Record). Appended w w (packets_text report m (chosen ranges l))) (sym none) (appended-nil w);
+  },
+  inl (inl is),
+)
 
 -- the end of a report fails
 closed_by : (report : Report) (ranges : List PacketRange) (m : Machine) (o new : Option Savefile) (count : ℕ)
     (records : List Record) (end : Option CaptureEnd) (u v w : Option (List ℕ)) (fault : WhyFault)
     → LookedKnown ranges o new count records → Appended u v (packets_text report m records)
     → IfSome o (λ c. Finished report ranges m c records end)
-    → Closed v w (Err fault) (closing_text report m records (shown_end ranges end))
+    → Closed v w (Err fault) (closing_text report m records (shown_end ranges end)) → (fault ≡ why.Memory → report ≡ Graph)
     → IfSome o (λ c. Reported report ranges m c count u w (Err fault))
-closed_by report ranges m None new count records end u v w fault known wrote done closed = tt
-closed_by report ranges m (Some c) new count records end u v w why.Write known wrote done closed =
+closed_by report ranges m None new count records end u v w fault known wrote done closed graph = tt
+closed_by report ranges m (Some c) new count records end u v w why.Write known wrote done closed graph =
     rw done.text at (part-then u v w _ _ wrote closed)
-closed_by report ranges m (Some c) new count records end u v w why.Memory known wrote done closed =
-    wrote_front report ranges m c known.0 count records u w known.2
-    (rw (append-nil (packets_text report m records)) at (appended-then u v w _ [] wrote closed))
-closed_by report ranges m (Some c) new count records end u v w why.Read known wrote done closed = absurd closed
+closed_by report ranges m (Some c) new count records end u v w why.Memory known wrote done closed graph = (
+  wrote_front report ranges m c known.0 count records u w known.2
+      (rw (append-nil (packets_text report m records)) at (appended-then u v w _ [] wrote closed)),
+  inr (graph refl),
+)
+closed_by report ranges m (Some c) new count records end u v w why.Read known wrote done closed graph = absurd closed
 
 part_of_all : (u w : Option (List ℕ)) (text : List ℕ) → Appended u w text → AppendedPart u w text
 part_of_all u w text x = rw (append-nil text) at (part-then u w w text [] x (part-take w w 0 [] (appended-nil w)))
@@ -227,10 +269,11 @@ module _ {A P : Type 0} (q : Question P) (old new : Reading) (d : Counted A) (u 
 
   pub unclosed : (fault : WhyFault)
       → Closed v w (Err fault) (closing_text q.report (machine_in q) went.records shown)
+      → (fault ≡ why.Memory → q.report ≡ Graph)
       → IfSome old.left (λ c. Reported q.report q.packets.now (machine_in q) c new.count u w (Err fault))
-  unclosed fault closed =
+  unclosed fault closed graph =
       closed_by q.report q.packets.now (machine_in q) old.left new.left new.count went.records end u v w fault
-      went.known went.wrote done_by (rw shows at closed)
+      went.known went.wrote done_by (rw shows at closed) graph
 
   -- all was written, and then flushed
   pub complete : (z : Option (List ℕ))

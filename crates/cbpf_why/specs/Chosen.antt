@@ -1,5 +1,5 @@
 -- Which packets of a capture are looked at (this project's own; packets are numbered from 1, as `tcpdump -#` does).
-use Rattle.std.specs.Prelude.{ℕ, ◌+◌, ◌≤◌, Bool, true, ◌&&◌, nat_le, nat_lt, List, [], ◌∷◌, filter, Option, Some, None}
+use Rattle.std.specs.Prelude.{◌≡◌, ℕ, ◌+◌, ◌≤◌, Bool, true, ◌&&◌, nat_le, nat_lt, List, [], ◌∷◌, filter, Option, Some, None}
 use Rattle.std.specs.Prelude.{if◌then◌else◌}
 use Rattle.std.proofs.Props.{props}
 use Rattle.std.specs.List.{All, list_any}
@@ -25,10 +25,14 @@ is_chosen (range ∷ ranges) n = list_any (is_within n) (range ∷ ranges)
 abbrev pub chosen : List PacketRange → List Record → List Record
 chosen ranges records = filter (λ r. is_chosen ranges r.number) records
 
--- each range begins at or after the begins of all that stand before it in the list
+-- a range begins before another, or where it begins and ends no later
+abbrev pub ComesFirst : PacketRange → PacketRange → Type 0
+ComesFirst a b = (a.first ≤ b.first) × (a.first ≡ b.first → a.last ≤ b.last)
+
+-- of two ranges of the list the one that stands before the other comes first
 abbrev pub AreSorted : List PacketRange → Type 0
 AreSorted [] = Unit {0}
-AreSorted (range ∷ ranges) = All (λ r. range.first ≤ r.first) ranges × AreSorted ranges
+AreSorted (range ∷ ranges) = All (ComesFirst range) ranges × AreSorted ranges
 
 -- this is a fact, so a type may have it as an invariant
 pub sorted_is_a_fact : (ranges : List PacketRange) → IsProp (AreSorted ranges)

@@ -3,7 +3,7 @@ use Rattle.std.specs.Prelude.{◌≡◌, ℕ, ◌+◌, ◌<◌, ◌≤◌, nat_l
 use Rattle.std.specs.Prelude.{Option, Some, None, IfSome, ◌^◌, Result, Ok, Err}
 use Rattle.cbpf_machine.specs.Machine.{Machine}
 use Rattle.cbpf_machine.specs.Ways.{Counted as CountedRuns, runs_at}
-use Rattle.pcap_classic.specs.Reading.{Reading}
+use Rattle.pcap_classic.specs.Reading.{NeedsRoom, Reading}
 use Rattle.pcap_classic.specs.Records.{Record}
 use Rattle.pcap_classic.specs.Savefile.{Savefile}
 use Rattle.cbpf_why.specs.declared.chosen.PacketRange.{PacketRange}
@@ -16,7 +16,7 @@ use Rattle.cbpf_why.specs.Chosen.{chosen}
 use Rattle.cbpf_why.specs.Ends.{alone, decided}
 use Rattle.cbpf_why.specs.Groups.{KeepsAll}
 use Rattle.cbpf_why.specs.Question.{machine_in}
-use Rattle.cbpf_why.specs.Reports.{goes_to_end, packets_text}
+use Rattle.cbpf_why.specs.Reports.{IsWithin, goes_to_end, packets_text}
 use Rattle.cbpf_why.specs.Runs.{executed, taken}
 use Rattle.cbpf_code.specs.Writing.{Appended, AppendedPart}
 use Rattle.cbpf_why.specs.declared.job.WhyFault.{WhyFault}
@@ -96,6 +96,12 @@ Closed old new (Err Write) text = AppendedPart old new text
 Closed old new (Err Memory) text = Appended old new []
 Closed old new (Err Read) text = ⊥
 
+-- out of memory comes where the next record of a capture that is known needs room
+abbrev pub HasCause : WhyFault → Option Savefile → Reading → Type 0
+HasCause Memory old new = IfSome old (λ _. IfSome new.left (λ s. NeedsRoom s.records s.ending))
+HasCause Read old new = Unit {0}
+HasCause Write old new = Unit {0}
+
 -- nothing is left of a capture that is known, and its ending is known
 abbrev pub IsOver : Option Savefile → Reading → Type 0
 IsOver old new = IfSome old (λ _. IfSome new.left (λ s. (s.records ≡ []) × (new.ended ≡ Some s.ending)))
@@ -131,6 +137,7 @@ pub record RangeFault {P : Type 0} (q : Question P) (range : PacketRange) (old n
   pub more : List Record
   pub up_to : old.count < new.count → new.count ≤ range.last
   pub reads : TookFromKnown range.first old.left new.left old.count new.count more
+  pub cause : HasCause fault old.left new
   pub stopped : Stopped fault w v (packets_text q.report (machine_in q) more)
 
 -- what is known of the capture before and after a call that reads a record, if there is one
@@ -159,6 +166,7 @@ pub record StepFault {P : Type 0} (q : Question P) (first : ℕ) (old new : Read
   pub is_few : length one ≤ 1
   pub count : new.count ≡ old.count + length one
   pub leaves : LeavesKnown old.count old.left new.left one
+  pub cause : HasCause fault old.left new
   pub stopped : Stopped fault w v (packets_text q.report (machine_in q) (from_first first one))
 
 -- ---- packets of several ranges
@@ -179,6 +187,7 @@ pub record Went {A P : Type 0} (q : Question P) (old new : Reading) (c : Counted
   pub records : List Record
   pub took : Took q c records
   pub few : length records ≤ new.count
+  pub within : IsWithin q.packets.now new.count
   pub known : LookedKnown q.packets.now old.left new.left new.count records
   pub wrote : Appended w v (packets_text q.report (machine_in q) records)
 
@@ -186,7 +195,9 @@ pub record Went {A P : Type 0} (q : Question P) (old new : Reading) (c : Counted
 pub record Broke {P : Type 0} (q : Question P) (old : Option Savefile) (new : Reading) (w v : Option (List ℕ))
     (fault : WhyFault) : Type 0 where
   pub records : List Record
+  pub within : IsWithin q.packets.now new.count
   pub known : LookedKnown q.packets.now old new.left new.count records
+  pub cause : HasCause fault old new
   pub stopped : Stopped fault w v (packets_text q.report (machine_in q) records)
 
 -- the end of the capture was read, or it wasn't asked for

@@ -1,7 +1,8 @@
 -- What the verdicts and the totals of a report are, by the outcomes of packets (Linux Documentation/networking/filter: a
--- packet passes where a run of the filter on it returns a number other than 0); and what the packets of a group share.
-use Rattle.std.specs.Prelude.{◌≡◌, ◌<◌, ◌*◌, ◌+◌, ℕ, zero, suc, true, List, length, map, count_by}
+-- packet passes where a run of the filter on it returns a number other than 0); that a text is one filter or none; and what the packets of a group share.
+use Rattle.std.specs.Prelude.{◌≡◌, ◌≢◌, ◌<◌, ◌*◌, ◌+◌, ℕ, zero, suc, true, List, length, map, count_by}
 use Rattle.cbpf_code.specs.Sound.{IsSound}
+use Rattle.cbpf_code.specs.declared.insn.Insn.{Insn}
 use Rattle.cbpf_machine.specs.declared.outcome.End.{End}
 use Rattle.cbpf_machine.specs.declared.outcome.End.TheVariants.{Returned, Outside, ZeroDivisor, Unknown}
 use Rattle.cbpf_machine.specs.Machine.{Machine}
@@ -12,6 +13,8 @@ use Rattle.cbpf_reply.specs.declared.reply.Counts.{Counts}
 use Rattle.pcap_classic.specs.Records.{Record}
 use Rattle.cbpf_why.specs.declared.ended.Decided.{Decided}
 use Rattle.cbpf_why.specs.declared.ended.Verdict.{Verdict}
+use Rattle.cbpf_why.specs.declared.filter.FilterFault.{FilterFault, TheVariants.Memory}
+use Rattle.cbpf_why.specs.Filters.{IsFilter, IsNoFilter}
 use Rattle.cbpf_why.specs.Ends.{decided, decided_of, ended, ends_of, kind_of, verdict_of}
 use Rattle.cbpf_why.specs.Groups.{count_of, group, is_in_group, row, totals}
 
@@ -30,6 +33,20 @@ VerdictIsOutcome = (m : Machine) (r : Record) → verdict_of (ended m r).reason 
 -- the totals count the outcomes
 abbrev pub TotalsCountOutcomes : Type 0
 TotalsCountOutcomes = (m : Machine) (records : List Record) → totals (ends_of m records) ≡ counts_of (outcomes_of m records)
+
+-- ---- filters
+
+-- a text has one program at most
+abbrev pub OneProgram : Type 0
+OneProgram = (text : List ℕ) (a b : List Insn) → IsFilter text a → IsFilter text b → a ≡ b
+
+-- out of memory aside, a text is refused for one reason
+abbrev pub OneReason : Type 0
+OneReason = (text : List ℕ) (f g : FilterFault) → f ≢ Memory → g ≢ Memory → IsNoFilter text f → IsNoFilter text g → f ≡ g
+
+-- no text that has a program is refused for another reason than out of memory
+abbrev pub NeverBoth : Type 0
+NeverBoth = (text : List ℕ) (list : List Insn) (f : FilterFault) → IsFilter text list → IsNoFilter text f → f ≡ Memory
 
 -- ---- groups, of which there is one for each row and verdict; all of a checked program
 

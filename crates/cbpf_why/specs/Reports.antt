@@ -1,5 +1,5 @@
 -- What is reported of a program on a capture (this project's own).
-use Rattle.std.specs.Prelude.{◌≡◌, ◌≤◌, ℕ, ◌==◌, nat_lt, Bool, ◌||◌, if◌then◌else◌, List, [], ◌∷◌, ◌++◌, length, take}
+use Rattle.std.specs.Prelude.{◌≡◌, ◌≤◌, ℕ, ◌==◌, nat_lt, Bool, ◌||◌, ◌⊎◌, false, if◌then◌else◌, List, [], ◌∷◌, ◌++◌, length, drop, take}
 use Rattle.std.specs.Prelude.{Option, Some, None, Result, Ok, Err}
 use Rattle.std.specs.List.{flat_map, list_any}
 use Rattle.cbpf_code.specs.Writing.{Appended, AppendedPart}
@@ -8,6 +8,7 @@ use Rattle.pcap_classic.specs.declared.ending.Ending.{Ending}
 use Rattle.cbpf_machine.specs.Machine.{Machine}
 use Rattle.cbpf_reply.specs.Counts.{finished_text}
 use Rattle.cbpf_reply.specs.Loads.{cut_text}
+use Rattle.pcap_classic.specs.Reading.{NeedsRoom, Reading}
 use Rattle.pcap_classic.specs.Records.{Record}
 use Rattle.pcap_classic.specs.Savefile.{Savefile}
 use Rattle.cbpf_why.specs.declared.chosen.PacketRange.{PacketRange}
@@ -78,6 +79,14 @@ ends_beyond count range = nat_lt count range.last
 abbrev pub goes_to_end : List PacketRange → ℕ → Bool
 goes_to_end ranges count = (length ranges == 0) || list_any (ends_beyond count) ranges
 
+-- so many packets were read: no more than up to a number by which all ranges end
+abbrev pub IsWithin : List PacketRange → ℕ → Type 0
+IsWithin ranges count = (n : ℕ) → goes_to_end ranges n ≡ false → count ≤ n
+
+-- what is left of a capture is what follows the packets that were read
+abbrev pub IsLeft : Savefile → Reading → Type 0
+IsLeft c new = new.left ≡ Some (record c { records = drop new.count c.records })
+
 -- how the capture ends, where it is read to its end
 abbrev pub end_read : List PacketRange → Savefile → Option CaptureEnd
 end_read ranges c = if goes_to_end ranges (length c.records) then Some (capture_end c) else None
@@ -89,6 +98,10 @@ pub record WroteFront (report : Report) (ranges : List PacketRange) (m : Machine
   pub few : count ≤ length c.records
   pub wrote : Appended old new (packets_text report m (chosen ranges (take count c.records)))
 
+-- memory runs out before the first packet, where the next record needs room, or where a graph is made of the counts
+abbrev pub RunsOut : Report → Savefile → ℕ → Type 0
+RunsOut report c count = ((count ≡ 0) ⊎ NeedsRoom (drop count c.records) c.ending) ⊎ (report ≡ Graph)
+
 -- What a report on a capture leaves in its writer. How many packets were read, which is `count`, matters only after a
 -- read that failed and out of memory.
 abbrev pub Reported : Report → List PacketRange → Machine → Savefile → ℕ → Option (List ℕ) → Option (List ℕ)
@@ -97,4 +110,5 @@ Reported report ranges m c count old new (Ok end) =
     (end ≡ end_read ranges c) × Appended old new (report_text report ranges m c)
 Reported report ranges m c count old new (Err Write) = AppendedPart old new (report_text report ranges m c)
 Reported report ranges m c count old new (Err Read) = WroteFront report ranges m c count old new
-Reported report ranges m c count old new (Err Memory) = WroteFront report ranges m c count old new
+Reported report ranges m c count old new (Err Memory) =
+    WroteFront report ranges m c count old new × RunsOut report c count

@@ -1,6 +1,6 @@
 //! What is reported of a program on a capture.
 
-ghost use Rattle.std.specs.Prelude.{◌≡◌, ◌++◌, [], List, length, None, Ok, Err, IfSome, MatchResult, if◌then◌else◌};
+ghost use Rattle.std.specs.Prelude.{◌≡◌, ◌++◌, [], List, length, None, Ok, Err, IfSome, IsErrOf, MatchResult, if◌then◌else◌};
 ghost use Rattle.std.specs.Option.{option_map, option_map_or};
 ghost use Rattle.cbpf_code.specs.Writing.{Wrote};
 ghost use Rattle.cbpf_reply.specs.Counts.{finished_text};
@@ -14,6 +14,7 @@ ghost use Rattle.cbpf_why.specs.Question.{machine_in};
 ghost use Rattle.cbpf_why.specs.Reports as reports;
 ghost use Rattle.cbpf_why.specs.declared.ended.Decided.{Decided as ADecided};
 ghost use Rattle.cbpf_why.specs.declared.job.WhyFault.TheVariants as fault;
+ghost use Rattle.cbpf_why.specs.declared.report.Report.TheVariants.{Graph};
 
 use crate::blocks::block_begins;
 use crate::chosen::PacketRange;
@@ -140,9 +141,10 @@ fn write_closing<P: Allocator, A: Allocator + Copy, W: Write>(
     end: Option<CaptureEnd>,
 ) -> Result<(), WhyFault>
     requires { (records : List Record) × spec.Took question.now counted.now records }
-    ensures { (records : List Record) → spec.Took question.now counted.now records
+    ensures wrote { (records : List Record) → spec.Took question.now counted.now records
         → spec.Closed (W.contents w.old) (W.contents w.new) result
         (reports.closing_text question.now.report (machine_in question.now) records end) }
+    ensures room { IsErrOf result fault.Memory → question.now.report ≡ Graph }
 {
     let p = question.program;
     match question.report {
@@ -194,6 +196,7 @@ fn end_read<R: Read, A: Allocator>(
 /// `Read` or `Memory` where no further record could be read: what was to be written of the packets before was written,
 /// but nothing of all together. `Memory` also where there is no room for the counts, or for the blocks of a graph.
 /// `Write` where a write or a flush failed: a beginning of the text was written.
+#[tactic(auto, using(crate::proofs::ReportLemmas::left_after, crate::proofs::ReportLemmas::within_after))]
 pub fn why<P: Allocator, A: Allocator + Copy, R: Read, B: Allocator, W: Write>(
     alloc: A,
     question: &Question<'_, P>,
@@ -201,8 +204,10 @@ pub fn why<P: Allocator, A: Allocator + Copy, R: Read, B: Allocator, W: Write>(
     w: &mut W,
 ) -> Result<Option<CaptureEnd>, WhyFault>
     requires count { reader.old.count ≡ 0 }
-    ensures { IfSome reader.old.left (λ c. reports.Reported question.now.report question.now.packets.now
+    ensures reported { IfSome reader.old.left (λ c. reports.Reported question.now.report question.now.packets.now
         (machine_in question.now) c reader.new.count (W.contents w.old) (W.contents w.new) result) }
+    ensures within { reports.IsWithin question.now.packets.now reader.new.count }
+    ensures left { IfSome reader.old.left (λ c. reports.IsLeft c reader.new) }
 {
     let Ok(mut counted) = Counted::new(alloc, question.program) else {
         return Err(WhyFault::Memory);

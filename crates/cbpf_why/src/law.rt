@@ -1,6 +1,7 @@
 //! Laws of the definitions, which hold whatever a program does.
 
 ghost use Rattle.cbpf_why.specs.Laws.{VerdictIsOutcome, TotalsCountOutcomes};
+ghost use Rattle.cbpf_why.specs.Laws.{NeverBoth, OneProgram, OneReason};
 ghost use Rattle.cbpf_why.specs.Laws.{EachInOneGroup, GroupsEndAlike, GroupsSumToTotals};
 
 /// The verdict on a packet is the kind of the outcome that a run of the program on the packet has. So the totals of a
@@ -8,6 +9,13 @@ ghost use Rattle.cbpf_why.specs.Laws.{EachInOneGroup, GroupsEndAlike, GroupsSumT
 pub fn totals_of_outcomes()
     ensures verdict { VerdictIsOutcome }
     ensures totals { TotalsCountOutcomes }
+{}
+
+/// The text of a filter is one program, or it is refused for one reason, and never both. Out of memory is no such reason.
+pub fn one_filter()
+    ensures program { OneProgram }
+    ensures reason { OneReason }
+    ensures never_both { NeverBoth }
 {}
 
 /// Each packet of a checked program is in exactly one group, and the counts of a verdict's groups sum to its total. All

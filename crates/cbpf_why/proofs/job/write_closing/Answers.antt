@@ -6,19 +6,19 @@ use Rattle.cbpf_why.specs.Question.{machine_in}
 use Rattle.cbpf_why.proofs.InRangeLemmas.{closed_by}
 use Rattle.cbpf_why.proofs.job.write_closing.Goals as goal
 
-pub returns-in-Ways : goal.returns-in-Ways
-returns-in-Ways g c = λ records took. rw c.in-Ways.is (appended-nil _)
+pub returns-in-Ways-clause-wrote : goal.returns-in-Ways-clause-wrote
+returns-in-Ways-clause-wrote g c = λ records took. rw c.in-Ways.is (appended-nil _)
 
-pub returns-in-Packets : goal.returns-in-Packets
-returns-in-Packets g c = λ records took. rw c.in-Packets.is (appended-nil _)
+pub returns-in-Packets-clause-wrote : goal.returns-in-Packets-clause-wrote
+returns-in-Packets-clause-wrote g c = λ records took. rw c.in-Packets.is (appended-nil _)
 
-pub returns-in-Summary : goal.returns-in-Summary
-returns-in-Summary g c = λ records took. rw c.in-Summary.is
+pub returns-in-Summary-clause-wrote : goal.returns-in-Summary-clause-wrote
+returns-in-Summary-clause-wrote g c = λ records took. rw c.in-Summary.is
     (closed_by c.write_summary.result c.written.result _ _ _ c.written.ensures
     (rw (kept-summary (machine_in c.args.question.now) records, totals-are (machine_in c.args.question.now) records) at
     (c.write_summary.ensures _ (summary_counted c.args.question.now c.args.counted.now records c.in-Summary.is took))))
 
-pub returns-in-Graph : goal.returns-in-Graph
-returns-in-Graph g c = λ records took. rw c.in-Graph.is
+pub returns-in-Graph-clause-wrote : goal.returns-in-Graph-clause-wrote
+returns-in-Graph-clause-wrote g c = λ records took. rw c.in-Graph.is
     (c.write_counted_graph.ensures records (graph_counted c.args.question.now c.args.counted.now records c.in-Graph.is took)
     (runs_counted c.args.question.now c.args.counted.now records (rw c.in-Graph.is refl) took))
