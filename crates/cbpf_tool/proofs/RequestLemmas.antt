@@ -20,7 +20,8 @@ use Rattle.cbpf_command_line.specs.CommandLine.{Asked, IsFaultOf}
 use Rattle.cbpf_command_line.specs.RequestLine.{job, why, WhyAsked, requested_for, request_faults}
 use Rattle.cbpf_command_line.specs.declared.job.LineFault.{LineFault}
 use Rattle.cbpf_command_line.proofs.Requests.{fault-first}
-use Rattle.cbpf_why.specs.Chosen.{AreSorted}
+use Rattle.std.specs.Cmp.{nat_cmp_is}
+use Rattle.cbpf_why.specs.Chosen.{AreSorted, ComesFirst}
 use Rattle.cbpf_tool.specs.Requests.{line_faults, why_faults}
 use Rattle.std.specs.Prelude.{if◌then◌else◌}
 use Rattle.cbpf_tool.specs.Requests.{value_in, with_given, values_by, packet_range}
@@ -100,29 +101,43 @@ first-not-less Equal q h = refl
 first-not-less Greater q h = refl
 
 abbrev Rises : List PacketRange → Type 0
-Rises xs = (k : ℕ) (d : PacketRange) → suc k < length xs → (get_or xs k d).first ≤ (get_or xs (suc k) d).first
+Rises xs = (k : ℕ) (d : PacketRange) → suc k < length xs → ComesFirst (get_or xs k d) (get_or xs (suc k) d)
 
 rises-tail : (x : PacketRange) (xs : List PacketRange) → Rises (x ∷ xs) → Rises xs
 rises-tail x xs h k d l = h (suc k) d (omega (arith, l))
+
+before-both : (a b c : PacketRange) → ComesFirst a b → ComesFirst b c → ComesFirst a c
+before-both a b c h k = (
+  omega (arith, h.0, k.0),
+  λ e.
+      let one = h.1 (omega (arith, h.0, k.0, e)) in
+      let other = k.1 (omega (arith, h.0, k.0, e)) in
+      omega (arith, one, other),
+)
 
 sorted-rising : (xs : List PacketRange) → Rises xs → AreSorted xs
 sorted-rising [] h = tt
 sorted-rising (x ∷ []) h = (All-nil _, tt)
 sorted-rising (x ∷ y ∷ xs) h =
     let rest : AreSorted (y ∷ xs) = sorted-rising (y ∷ xs) (rises-tail x (y ∷ xs) h) in
-    let step : x.first ≤ y.first = h 0 x (omega arith) in (
-      All-cons (λ r. x.first ≤ r.first) y xs step
-          (All-weaker (λ r. y.first ≤ r.first) (λ r. x.first ≤ r.first) (λ r l. omega (arith, step, l)) xs rest.0),
+    let step : ComesFirst x y = h 0 x (omega arith) in (
+      All-cons (ComesFirst x) y xs step
+          (All-weaker (ComesFirst y) (ComesFirst x) (λ r l. before-both x y r step l) xs rest.0),
       rest,
     )
+
+comes-first : (a b : PacketRange) → is_lt (ordering_then (nat_cmp b.first a.first) (nat_cmp b.last a.last)) ≡ false
+    → ComesFirst a b
+comes-first a b h = (
+  ge_from_not_lt b.first a.first (first-not-less (nat_cmp b.first a.first) (nat_cmp b.last a.last) h),
+  λ e. ge_from_not_lt b.last a.last (rw (← nat_cmp_is b.first a.first Equal (sym e)) at h),
+)
 
 pub sorted-ranges : (xs : List PacketRange)
     → IsSorted (λ a b. ordering_then (nat_cmp a.first b.first) (nat_cmp a.last b.last)) xs → AreSorted xs
 sorted-ranges xs h = sorted-rising xs (λ k d l.
     let next : k + 1 < length xs = omega (arith, l) in
-    rw (add-one k) at (ge_from_not_lt (get_or xs (k + 1) d).first (get_or xs k d).first
-    (first-not-less (nat_cmp (get_or xs (k + 1) d).first (get_or xs k d).first)
-    (nat_cmp (get_or xs (k + 1) d).last (get_or xs k d).last) (h k d (omega arith) next))))
+    rw (add-one k) at (comes-first (get_or xs k d) (get_or xs (k + 1) d) (h k d (omega arith) next)))
 
 -- ---- faults of a command line
 

@@ -24,7 +24,7 @@ reported-some : (q : Query) (c : Savefile) (count : ℕ) (new : Option (List ℕ
     → Reported q.report q.ranges q.machine c count (Some []) new end → (text : List ℕ) × (new ≡ Some text)
 reported-some q c count new (Ok x) h = appended-some [] new _ h.1
 reported-some q c count new (Err Read) h = appended-some [] new _ h.wrote
-reported-some q c count new (Err Memory) h = appended-some [] new _ h.wrote
+reported-some q c count new (Err Memory) h = appended-some [] new _ h.0.wrote
 reported-some q c count new (Err Write) h = part-some [] new _ h
 
 pub report-printed : (h mid new : Hosted) (q : Query) (name : Option (List ℕ)) (c : Savefile) (count : ℕ)

@@ -3,6 +3,7 @@
 ghost use Rattle.std.specs.Prelude.{◌≡◌, ℕ, List, Some, None, IsTrue, string_bytes};
 ghost use Rattle.std.specs.Option.{option_map};
 ghost use Rattle.pcap_classic.specs.Savefile.{Savefile};
+ghost use Rattle.cbpf_why.specs.Reports.{IsWithin};
 ghost use Rattle.cbpf_tool.specs.Hosted.{IsReady};
 ghost use Rattle.cbpf_tool.specs.WhyJobs as spec;
 
@@ -82,9 +83,10 @@ fn print_report<A: Allocator + Copy, P: Allocator, H: Host, R: Read>(
     name: Option<String>,
 ) -> Result<Option<Remarks>, WhyFailure>
     requires count { reader.old.count ≡ 0 }
-    ensures { IsReady (H.view host.old) → (c : Savefile) → reader.old.left ≡ Some c →
+    ensures report { IsReady (H.view host.old) → (c : Savefile) → reader.old.left ≡ Some c →
         spec.PrintsReport (H.view host.old) (H.view host.new) (spec.query_of program.now asked)
         (option_map (λ n. string_bytes n) name) c result }
+    ensures within { IsWithin asked.packets.items reader.new.count }
 {
     let Ok(mut writer) = host.output() else {
         return Err(failed(ToolFault::Memory));
