@@ -1,6 +1,8 @@
 //! `cbpf`: shows why packets pass or fail a classic BPF filter; assembles and debugs filters.
 #![tactic(auto)]
 
+ghost use Rattle.std.specs.Io.{ReadsAtMost};
+ghost use Rattle.std.specs.Io.KnownBytes.{ReadConsumes};
 ghost use Rattle.std.specs.Prelude.{◌≡◌};
 ghost use Rattle.std.specs.Process.{exit_status};
 ghost use Rattle.cbpf_tool.specs.Hosted.{unknown};
@@ -17,6 +19,21 @@ use std::process::ExitCode;
 use std::rt::{Env, Files};
 use std::{env, fs};
 
+/// Reads, and reads again where a signal interrupted the read.
+fn read_again<R: Read>(reader: &mut R, buf: &mut [u8]) -> io::Result<usize>
+    ensures bound { ReadsAtMost result buf.new }
+    ensures bytes { ReadConsumes (R.remaining reader.old) (R.remaining reader.new) result buf.new }
+{
+    // Counted, so that it is proved to end.
+    'reads: for _ in 0..u64::MAX {
+        match reader.read(buf) {
+            Err(e) if e.kind() == ErrorKind::Interrupted => {}
+            done => return done,
+        }
+    }
+    Err(io::Error::from(ErrorKind::Interrupted))
+}
+
 /// A file or the standard input, as one type: so the compiler makes one copy of each loop over what they read.
 #[derive(Drop)]
 enum Source<F, I> {
@@ -29,8 +46,8 @@ impl<F: Read, I: Read> Read for Source<F, I> {
 
     fn read(&mut self, buf: &mut [u8]) -> io::Result<usize> {
         match self {
-            Source::File(file) => file.read(buf),
-            Source::Input(input) => input.read(buf),
+            Source::File(file) => read_again(file, buf),
+            Source::Input(input) => read_again(input, buf),
         }
     }
 }
