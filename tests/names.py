@@ -11,7 +11,8 @@ crates/*/CALLING.md. Each is read outside its blocks of code, and names what sta
                    one that the line names
   another name     it stands in the code, the definitions, the proofs or the scripts, or it is a file's or a folder's
   cbpf_..          also without backquotes: a crate, or a name of the code
-  a definition     at the head of an item of docs/DEFINITIONS.md: it stands in a file that the item names
+  a definition     at the head of an item of docs/PROOF.md: it stands in a file that the item names
+  a theorem        a row of docs/PROOF.md: the call is there with these clauses, and the definitions stand in these files
   a call           in a block ```calls of docs/ARCHITECTURE.md: the function stands in the line's file
   a definition     in a `ghost use` line of a CALLING.md: it is there
   a line           in a block ```crates.txt of a CALLING.md: it stands in crates.txt
@@ -32,6 +33,7 @@ The last line is `N names, M failed`.
 import re
 import sys
 from functools import cache
+from pathlib import Path
 
 from items import CRATES, TOP, items, libraries
 from run import CASES, parts
@@ -161,7 +163,7 @@ def check_spans(path):
 
 
 def explained(path):
-    """The items of docs/DEFINITIONS.md, ``- `a`, `b` (file): ..``: line, names, files and the whole text."""
+    """The items of docs/PROOF.md, ``- `a`, `b` (file): ..``: line, names and files."""
     own = []
     for number, line in lines_of(path):
         if line.startswith("#"):
@@ -170,15 +172,32 @@ def explained(path):
             folders = [TOP, *(CRATES / crate for crate in own)]
             listed = re.findall(r"[\w/]*specs/\w+\.antt", match[2])
             files = [folder / name for name in listed for folder in folders if (folder / name).exists()]
-            yield number, CODE_SPAN.findall(match[1]), files, line
+            yield number, CODE_SPAN.findall(match[1]), files
 
 
 def check_definitions(path):
-    for number, named, files, line in explained(path):
+    for number, named, files in explained(path):
         check(bool(files), path, number, f"no file for {', '.join(named)}")
         for name in named:
             holds = any(name in spec_items(file)[1] for file in files)
             check(holds, path, number, f"no definition {name} in {', '.join(file.name for file in files)}")
+
+
+def check_theorems(path):
+    """Whether the rows ``| n | `call`: `clause`, .. | `definition`, .. | `crate/specs/file`, `file`, .. |`` name what is there."""
+    for number, line in lines_of(path):
+        if row := re.match(r"\| \d+ \| `([\w:]+)`: (.*?) \| (.*?) \| (`(\w+)/specs/.*?) \|", line):
+            crate = CRATES / row[5]
+            found = [text for item in items(crate) if item.name == row[1] for text in item.text]
+            clauses = re.findall(r"^ *ensures\*?(?: (\w+))? \{", "\n".join(found), re.M)
+            check(found != [], path, number, f"no call {row[1]} in {crate.name}")
+            for clause in CODE_SPAN.findall(row[2]):
+                check(clause in clauses, path, number, f"no clause {clause} of {row[1]}")
+            check("`" in row[2] or clauses == [""], path, number, f"{len(clauses)} clauses of {row[1]}")
+            files = [crate / "specs" / Path(name).name for name in CODE_SPAN.findall(row[4])]
+            for name in CODE_SPAN.findall(row[3]):
+                holds = any(file.exists() and name in spec_items(file)[1] for file in files)
+                check(holds, path, number, f"no definition {name} in {', '.join(file.name for file in files)}")
 
 
 def check_edit(path):
@@ -360,7 +379,7 @@ def check_extensions():
 
 # The checks of a document by its name.
 OF_ONE = {
-    "DEFINITIONS.md": [check_definitions],
+    "PROOF.md": [check_definitions, check_theorems],
     "CALLING.md": [check_listed, check_imports],
 }
 
