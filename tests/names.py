@@ -15,7 +15,8 @@ crates/*/CALLING.md. Each is read outside its blocks of code, and names what sta
   a theorem        a row of docs/PROOF.md: the call is there with these clauses, and the definitions stand in these files
   a call           in a block ```calls of docs/ARCHITECTURE.md: the function stands in the line's file
   a definition     in a `ghost use` line of a CALLING.md: it is there
-  a line           in a block ```crates.txt of a CALLING.md: it stands in crates.txt
+  a line           in a block ```crates.txt of docs/LIBRARIES.md: it stands in crates.txt, and so does each line of a library
+                   that has a CALLING.md; a row of its table that says what to copy has all crates below
 What is there is explained where it stands, or in the documents:
   a public item    of a library, and a definition that the clauses of one reach: a comment stands right above it
   a definition     of a file specs/: something cites it
@@ -239,12 +240,26 @@ def blocks(path):
         yield text_of(path)[: block.start()].count("\n") + 1, block[1], block[2]
 
 
+def below(crate, lines):
+    """The crates of this repository on which one stands."""
+    direct = [name for name in lines.get(crate, "").split() if name in crates()]
+    return {*direct, *(low for name in direct for low in below(name, lines))}
+
+
 def check_listed(path):
-    """Whether the lines of crates.txt that a page for callers quotes are there."""
-    listed = text_of(TOP / "crates.txt").splitlines()
+    """Whether the page on libraries quotes crates.txt as it is, and says for each crate which others it stands on."""
+    lines = dict(line.split(":", 1) for line in text_of(TOP / "crates.txt").splitlines() if not line.startswith("#"))
+    quoted = {}
     for number, kind, text in blocks(path):
-        for line in text.splitlines() if kind == "crates.txt" else ():
-            check(line in listed, path, number, f"not in crates.txt: {line}")
+        for name, _, rest in (line.partition(":") for line in text.splitlines() if kind == "crates.txt"):
+            check(lines.get(name) == rest, path, number, f"not in crates.txt: {name}:{rest}")
+            quoted[name] = rest
+    rows = [re.match(r"\| `(\w+)` \| ([^|]*) \|$", line) for _, line in lines_of(path)]
+    copied = {row[1]: set(CODE_SPAN.findall(row[2])) for row in rows if row}
+    for page in sorted(CRATES.glob("*/CALLING.md")):
+        crate = page.parent.name
+        check(copied.get(crate) == below(crate, lines), path, 1, f"{crate} stands on {sorted(below(crate, lines))}")
+        check({crate, *below(crate, lines)} <= quoted.keys(), path, 1, f"no line of {crate} or of one below it")
 
 
 @cache
@@ -380,7 +395,8 @@ def check_extensions():
 # The checks of a document by its name.
 OF_ONE = {
     "PROOF.md": [check_definitions, check_theorems],
-    "CALLING.md": [check_listed, check_imports],
+    "LIBRARIES.md": [check_listed],
+    "CALLING.md": [check_imports],
 }
 
 
