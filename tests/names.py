@@ -12,11 +12,11 @@ crates/*/CALLING.md. Each is read outside its blocks of code, and names what sta
   another name     it stands in the code, the definitions, the proofs or the scripts, or it is a file's or a folder's
   cbpf_..          also without backquotes: a crate, or a name of the code
   a definition     at the head of an item of docs/PROOF.md: it stands in a file that the item names
-  a theorem        a row of docs/PROOF.md: the call is there with these clauses, and the definitions stand in these files
+  a theorem        in a row of docs/PROOF.md: its call is there with its clauses, and its definitions in its files
   a call           in a block ```calls of docs/ARCHITECTURE.md: the function stands in the line's file
   a definition     in a `ghost use` line of a CALLING.md: it is there
-  a line           in a block ```crates.txt of docs/LIBRARIES.md: it stands in crates.txt, and so does each line of a library
-                   that has a CALLING.md; a row of its table that says what to copy has all crates below
+  a line           in a block ```crates.txt of docs/LIBRARIES.md: it stands in crates.txt. The page has the lines of each
+                   library with a CALLING.md and of those below it, and its table has these as what to copy
 What is there is explained where it stands, or in the documents:
   a public item    of a library, and a definition that the clauses of one reach: a comment stands right above it
   a definition     of a file specs/: something cites it
@@ -185,7 +185,7 @@ def check_definitions(path):
 
 
 def check_theorems(path):
-    """Whether the rows ``| n | `call`: `clause`, .. | `definition`, .. | `crate/specs/file`, `file`, .. |`` name what is there."""
+    """Whether rows ``| n | `call`: `clause`, .. | `definition`, .. | `crate/specs/file`, .. |`` name what is there."""
     for number, line in lines_of(path):
         if row := re.match(r"\| \d+ \| `([\w:]+)`: (.*?) \| (.*?) \| (`(\w+)/specs/.*?) \|", line):
             crate = CRATES / row[5]
