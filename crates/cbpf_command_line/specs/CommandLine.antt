@@ -2,7 +2,7 @@
 -- meaning of a command line. That call is for callers who have only the jobs `asm` and `dbg`, and refuses `why`. The
 -- program itself reads the command line of RequestLine.antt.
 use Rattle.std.specs.Prelude.{◌≡◌, ◌≢◌, ◌⊎◌, ℕ, if◌then◌else◌, Bool, true, false, [], List, Option, Some, None, option_map, codes}
-use Rattle.std.specs.Prelude.{bytes_eq, String}
+use Rattle.std.specs.Prelude.{bytes_eq, string_bytes, String}
 use Rattle.std.specs.Option.{option_map_or}
 use Rattle.clap.specs.Words.{App, Rule, Row, Text, new_app, new_rule, with_rule, with_subcommand, first_of}
 use Rattle.clap.specs.Words.{subcommand_of, fault_of}
@@ -107,3 +107,9 @@ IsSameFault (Help a) (Help b) = text_of a ≡ text_of b
 IsSameFault (Refused a) (Refused b) = text_of a ≡ text_of b
 IsSameFault Memory Memory = Unit {0}
 IsSameFault _ _ = ⊥
+
+-- what is said of a command line that asks for no job: the text of the help or of the refusal
+abbrev pub line_message : LineFault → List ℕ
+line_message (Help text) = string_bytes text
+line_message (Refused text) = string_bytes text
+line_message Memory = codes "out of memory"

@@ -7,45 +7,61 @@ ghost use Rattle.cbpf_text.specs.Refusals.{bad_piece_kind, grammar_kind};
 use crate::fault_at::FaultAt;
 use cbpf_syntax::{BadPiece, SyntaxFault};
 use std::alloc::{AllocError, AllocFailed};
-use thiserror::Error;
+use std::error::Error;
+use std::fmt;
 
 /// What is wrong with a source text.
-#[derive(Clone, Copy, Debug, PartialEq, Eq, Error)]
+#[derive(Clone, Copy, Debug, PartialEq, Eq)]
 pub enum AsmKind {
     /// A1: a byte, or a run of letters, digits and `_` that begins with a digit, that is no token.
-    #[error("A1 unknown byte")]
     NoToken,
     /// A2: a `/*` comment that isn't closed.
-    #[error("A2 comment not closed")]
     OpenComment,
     /// A3: a number above 4294967295, or above 2147483648 after a `-`.
-    #[error("A3 number out of range")]
     LargeNumber,
     /// A4: the tokens before this one begin a list of instructions, and with it they don't.
-    #[error("A4 token can't stand here")]
     Misplaced,
     /// A5: the text ends inside an instruction, or after a label.
-    #[error("A5 text ends inside an instruction")]
     Unfinished,
     /// A6: a label that an earlier one has set already.
-    #[error("A6 label set twice")]
     LabelSetTwice,
     /// A7: a label of an operand that is set nowhere.
-    #[error("A7 label not defined")]
     LabelNotSet,
     /// A8: a target that isn't after its jump.
-    #[error("A8 target is not after the jump")]
     NotAfter,
     /// A9: a target of a conditional jump with an offset above 255.
-    #[error("A9 conditional target further than 255")]
     TooFar,
     /// A10: more than 4096 instructions.
-    #[error("A10 more than 4096 instructions")]
     TooMany,
     /// A11: no instruction at all.
-    #[error("A11 no instruction")]
     NoInstruction,
 }
+
+/// Shows its number and what is wrong.
+impl fmt::Display for AsmKind {
+    ghost use Rattle.std.specs.Prelude.{Some};
+    ghost use Rattle.cbpf_text.specs.Messages.{kind_text};
+
+    ghost output = { λ kind. Some (kind_text kind) };
+
+    fn fmt<W: fmt::Write>(&self, f: &mut fmt::Formatter<W>) -> fmt::Result {
+        f.write_str(match *self {
+            AsmKind::NoToken => "A1 unknown byte",
+            AsmKind::OpenComment => "A2 comment not closed",
+            AsmKind::LargeNumber => "A3 number out of range",
+            AsmKind::Misplaced => "A4 token can't stand here",
+            AsmKind::Unfinished => "A5 text ends inside an instruction",
+            AsmKind::LabelSetTwice => "A6 label set twice",
+            AsmKind::LabelNotSet => "A7 label not defined",
+            AsmKind::NotAfter => "A8 target is not after the jump",
+            AsmKind::TooFar => "A9 conditional target further than 255",
+            AsmKind::TooMany => "A10 more than 4096 instructions",
+            AsmKind::NoInstruction => "A11 no instruction",
+        })
+    }
+}
+
+impl Error for AsmKind {}
 
 /// What a bad piece of a text is reported as.
 pub(crate) fn bad_piece_kind(bad: BadPiece) -> AsmKind
@@ -70,16 +86,31 @@ pub(crate) fn syntax_fault(refused: SyntaxFault) -> FaultAt
 }
 
 /// Why a source text has no instructions.
-#[derive(Clone, Copy, Debug, PartialEq, Eq, Error)]
+#[derive(Clone, Copy, Debug, PartialEq, Eq)]
 pub enum AsmFault {
     /// The allocator refused.
-    #[error("out of memory")]
     Memory,
     /// What is wrong, and the line of the piece or token that shows it, counted from 1; line 1 for
     /// A11.
-    #[error("line {1}: {0}")]
     At(AsmKind, u64),
 }
+
+/// Shows what is wrong, after the line.
+impl fmt::Display for AsmFault {
+    ghost use Rattle.std.specs.Prelude.{Some};
+    ghost use Rattle.cbpf_text.specs.Messages.{fault_text};
+
+    ghost output = { λ fault. Some (fault_text fault) };
+
+    fn fmt<W: fmt::Write>(&self, f: &mut fmt::Formatter<W>) -> fmt::Result {
+        match *self {
+            AsmFault::Memory => f.write_str("out of memory"),
+            AsmFault::At(kind, line) => write!(f, "line {line}: {kind}"),
+        }
+    }
+}
+
+impl Error for AsmFault {}
 
 impl<T: Drop> From<AllocFailed<T>> for AsmFault {
     ghost use Rattle.std.specs.Prelude.{◌≡◌};

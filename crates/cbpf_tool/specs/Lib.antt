@@ -17,6 +17,7 @@ pub mod Progress
 pub mod Assembling
 pub mod Hosted
 pub mod Jobs
+pub mod Messages
 pub mod Laws
 pub mod Totals
 pub mod RunJob

@@ -5,16 +5,33 @@ ghost use Rattle.cbpf_tool.specs.Jobs as spec;
 
 use crate::fault::ToolFault;
 use crate::host::CreateFault;
-use thiserror::Error;
+use std::error::Error;
+use std::fmt;
 
 /// Why the program failed.
-#[derive(Debug, Drop, Error)]
+#[derive(Debug, Drop)]
 pub enum Failure {
-    #[error("{0}")]
+    /// A tool ended before its end.
     Tool(ToolFault),
-    #[error("{} {}", CreateFault::NotCreated, .0)]
+    /// The file of this name could not be opened, or created.
     CannotOpen(String),
 }
+
+impl fmt::Display for Failure {
+    ghost use Rattle.std.specs.Prelude.{Some};
+    ghost use Rattle.cbpf_tool.specs.Messages.{failure_message};
+
+    ghost output = { λ fault. Some (failure_message fault) };
+
+    fn fmt<W: fmt::Write>(&self, f: &mut fmt::Formatter<W>) -> fmt::Result {
+        match self {
+            Failure::Tool(fault) => fmt::Display::fmt(fault, f),
+            Failure::CannotOpen(name) => write!(f, "{} {name}", CreateFault::NotCreated),
+        }
+    }
+}
+
+impl Error for Failure {}
 
 /// The result of a tool as that of a job.
 pub(crate) fn tooled(done: Result<(), ToolFault>) -> Result<(), Failure>

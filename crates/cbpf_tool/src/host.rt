@@ -6,19 +6,34 @@ ghost use Rattle.cbpf_tool.specs.Hosted.{Hosted, IsReady, and_then, without_inpu
 ghost use Rattle.cbpf_tool.specs.Hosted.{wrote, printed, Opens, Creates};
 
 use crate::files::Files;
+use std::error::Error;
+use std::fmt;
 use std::io::{self, Read, Write};
-use thiserror::Error;
 
 /// Why there is no output to a file.
-#[derive(Clone, Copy, PartialEq, Eq, Debug, Error)]
+#[derive(Clone, Copy, PartialEq, Eq, Debug)]
 pub enum CreateFault {
     /// The file could not be created.
-    #[error("cannot open")]
     NotCreated,
     /// Out of memory for its buffer.
-    #[error("out of memory")]
     Memory,
 }
+
+impl fmt::Display for CreateFault {
+    ghost use Rattle.std.specs.Prelude.{Some};
+    ghost use Rattle.cbpf_tool.specs.Messages.{create_message};
+
+    ghost output = { λ fault. Some (create_message fault) };
+
+    fn fmt<W: fmt::Write>(&self, f: &mut fmt::Formatter<W>) -> fmt::Result {
+        match self {
+            CreateFault::NotCreated => f.write_str("cannot open"),
+            CreateFault::Memory => f.write_str("out of memory"),
+        }
+    }
+}
+
+impl Error for CreateFault {}
 
 /// Files by name, standard streams, and what was done with them. Where the machine says what it holds, each `open`,
 /// `create`, `close` and `print` is an event after the earlier ones, also where a file can't be opened or created. The

@@ -10,27 +10,43 @@ use crate::remarks::{Remarks, remarks_of};
 use crate::report_asked::ReportAsked;
 use cbpf_why::{CaptureEnd, FilterFault, WhyFault};
 use pcap_classic::HeaderFault;
-use thiserror::Error;
+use std::error::Error;
+use std::fmt;
 
 /// Why the program failed, with `why`.
-#[derive(Debug, Drop, Error)]
+#[derive(Debug, Drop)]
 pub enum WhyFailure {
     /// As of the other jobs.
-    #[error("{0}")]
     Job(Failure),
     /// The file of this name could not be read.
-    #[error("{}: {}", .0, ToolFault::Read)]
     Read(String),
     /// The filter of this name is refused.
-    #[error("{0}: {1}")]
     Filter(String, FilterFault),
     /// The capture of this name is none.
-    #[error("{0}: {1}")]
     Capture(String, HeaderFault),
     /// The standard input holds no capture.
-    #[error("{0}")]
     Input(HeaderFault),
 }
+
+/// Shows what failed, after the name of the file if there is one.
+impl fmt::Display for WhyFailure {
+    ghost use Rattle.std.specs.Prelude.{Some};
+    ghost use Rattle.cbpf_tool.specs.Messages.{why_failure_message};
+
+    ghost output = { λ fault. Some (why_failure_message fault) };
+
+    fn fmt<W: fmt::Write>(&self, f: &mut fmt::Formatter<W>) -> fmt::Result {
+        match self {
+            WhyFailure::Job(failure) => fmt::Display::fmt(failure, f),
+            WhyFailure::Read(name) => write!(f, "{name}: {}", ToolFault::Read),
+            WhyFailure::Filter(name, fault) => write!(f, "{name}: {fault}"),
+            WhyFailure::Capture(name, fault) => write!(f, "{name}: {fault}"),
+            WhyFailure::Input(fault) => fmt::Display::fmt(fault, f),
+        }
+    }
+}
+
+impl Error for WhyFailure {}
 
 /// The fault of a tool as that of `why`.
 pub(crate) fn failed(fault: ToolFault) -> WhyFailure

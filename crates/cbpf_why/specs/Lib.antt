@@ -13,3 +13,4 @@ pub mod Reports
 pub mod Question
 pub mod Job
 pub mod Laws
+pub mod Messages

@@ -8,24 +8,40 @@ ghost use Rattle.cbpf_why.specs.Filters as spec;
 use cbpf_code::{CheckFault, Insn, Program, WordFault, is_blank, is_digit, read_words};
 use cbpf_text::{AsmFault, assemble};
 use std::alloc::Allocator;
-use thiserror::Error;
+use std::error::Error;
+use std::fmt;
 
 /// Why a text is no program.
-#[derive(Clone, Copy, Debug, PartialEq, Eq, Error)]
+#[derive(Clone, Copy, Debug, PartialEq, Eq)]
 pub enum FilterFault {
     /// It is no source. It is never `AsmFault::Memory`.
-    #[error("{0}")]
     Source(AsmFault),
     /// It is no word text. It is never `WordFault::Memory`.
-    #[error("{0}")]
     Words(WordFault),
     /// The checker refuses its instructions.
-    #[error("{0}")]
     Check(CheckFault),
     /// The allocator refused.
-    #[error("out of memory")]
     Memory,
 }
+
+/// Shows the fault of the source, of the words or of the program.
+impl fmt::Display for FilterFault {
+    ghost use Rattle.std.specs.Prelude.{Some};
+    ghost use Rattle.cbpf_why.specs.Messages.{filter_message};
+
+    ghost output = { λ fault. Some (filter_message fault) };
+
+    fn fmt<W: fmt::Write>(&self, f: &mut fmt::Formatter<W>) -> fmt::Result {
+        match self {
+            FilterFault::Source(fault) => fmt::Display::fmt(fault, f),
+            FilterFault::Words(fault) => fmt::Display::fmt(fault, f),
+            FilterFault::Check(fault) => fmt::Display::fmt(fault, f),
+            FilterFault::Memory => f.write_str("out of memory"),
+        }
+    }
+}
+
+impl Error for FilterFault {}
 
 /// Whether a text is words, and no source.
 fn are_words(text: &[u8]) -> bool

@@ -29,22 +29,37 @@ use cbpf_code::{Program, WriteFault};
 use cbpf_reply::{write_cut, write_finished};
 use pcap_classic::{CaptureReader, Ending};
 use std::alloc::Allocator;
+use std::error::Error;
+use std::fmt;
 use std::io::{Read, Write};
-use thiserror::Error;
 
 /// Why a report ended before its end.
-#[derive(Clone, Copy, Debug, PartialEq, Eq, Error)]
+#[derive(Clone, Copy, Debug, PartialEq, Eq)]
 pub enum WhyFault {
     /// A read of the capture failed.
-    #[error("read fault")]
     Read,
     /// A write or a flush failed.
-    #[error("{}", WriteFault)]
     Write,
     /// Out of memory.
-    #[error("out of memory")]
     Memory,
 }
+
+impl fmt::Display for WhyFault {
+    ghost use Rattle.std.specs.Prelude.{Some};
+    ghost use Rattle.cbpf_why.specs.Messages.{why_message};
+
+    ghost output = { λ fault. Some (why_message fault) };
+
+    fn fmt<W: fmt::Write>(&self, f: &mut fmt::Formatter<W>) -> fmt::Result {
+        match self {
+            WhyFault::Read => f.write_str("read fault"),
+            WhyFault::Write => fmt::Display::fmt(&WriteFault, f),
+            WhyFault::Memory => f.write_str("out of memory"),
+        }
+    }
+}
+
+impl Error for WhyFault {}
 
 /// How a capture ends.
 #[derive(Clone, Copy, Debug, PartialEq, Eq)]
