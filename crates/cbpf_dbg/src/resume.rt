@@ -9,8 +9,8 @@ ghost use Rattle.cbpf_dbg.specs.Cursor.{Stands};
 
 use crate::cursor::Cursor;
 use crate::loaded::Loaded;
-use cbpf_machine::{Meter, Packet, Task, Trail};
-use cbpf_reply::Place;
+use cbpf_machine::{Meter, Trail};
+use cbpf_reply::{Place, task_of};
 use std::alloc::Allocator;
 
 /// Goes to a step of a packet, or returns how many steps the packet has and moves nothing.
@@ -40,14 +40,7 @@ pub(crate) fn resume_at<T: Trail, A: Allocator>(
         *cursor = Cursor::before(place.packet, item.start);
         return Ok(());
     }
-    let task = Task {
-        program: loaded.program,
-        packet: Packet {
-            bytes: item.bytes,
-            wire: item.wire,
-        },
-        values: loaded.values,
-    };
+    let task = task_of(loaded.program, loaded.values, &item);
     let state = trail.go_to(meter, &task, place.step)?;
     *cursor = Cursor::at(place, item.start, state);
     Ok(())

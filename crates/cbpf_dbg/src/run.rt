@@ -18,9 +18,9 @@ ghost use Rattle.cbpf_dbg.specs.Going.{CanGoOn, GoesOn, KeepsIn};
 use crate::cursor::{Cursor, Moved, Walk, stop_at};
 use crate::loaded::Loaded;
 use cbpf_machine::{
-    Followed, Meter, Never, Packet, Pause, State, Task, Trail, Watched, follow_on, follow_packet,
+    Followed, Meter, Never, Pause, State, Task, Trail, Watched, follow_on, follow_packet,
 };
-use cbpf_reply::{RunReply, Stop, Why};
+use cbpf_reply::{RunReply, Stop, Why, task_of};
 use std::alloc::Allocator;
 
 /// What a run keeps of a packet as it follows it: a trail, or nothing.
@@ -140,14 +140,7 @@ pub(crate) fn run_records<P: Pause, A: Allocator, K: Keeper<P, A>>(
     let end = walk.end;
     'go: while walk.cursor.place.packet < end {
         let here = walk.left.front();
-        let task = Task {
-            program,
-            packet: Packet {
-                bytes: here.bytes,
-                wire: here.wire,
-            },
-            values,
-        };
+        let task = task_of(program, values, &here);
         match keeper.follow_packet(meter, &task, pause, &mut walk.cursor.state) {
             Followed::Paused(entries) => {
                 walk.cursor.place.step = entries;
@@ -210,14 +203,7 @@ pub(crate) fn go_on_in_packet<P: Pause, A: Allocator, K: Keeper<P, A>>(
         return false;
     }
     let here = walk.left.front();
-    let task = Task {
-        program: loaded.program,
-        packet: Packet {
-            bytes: here.bytes,
-            wire: here.wire,
-        },
-        values: loaded.values,
-    };
+    let task = task_of(loaded.program, loaded.values, &here);
     let followed = keeper.follow_on(meter, &task, pause, &mut walk.cursor.state);
     if let Moved::Entry = walk.cursor.apply(followed) {
         return true;

@@ -18,8 +18,8 @@ use crate::cursor::{Cursor, Moved, Walk, stop_at};
 use crate::loaded::Loaded;
 use crate::run::{NoTrail, run_records};
 use cbpf_code::MAX_INSTRUCTIONS;
-use cbpf_machine::{Meter, Never, Packet, Task, Trail};
-use cbpf_reply::{RunReply, Stop, Why};
+use cbpf_machine::{Meter, Never, Trail};
+use cbpf_reply::{RunReply, Stop, Why, packet_of, task_of};
 use pcap_classic::{Captured, Records};
 use std::alloc::Allocator;
 
@@ -122,14 +122,7 @@ fn step_in_packet<T: Trail, A: Allocator>(
     ensures out { IfSome result (λ ahead. GoesOut (length (trace (machine_in loaded.now) here.now.bytes.now here.now.wire))
         cursor.old cursor.new n ahead meter.old meter.new) }
 {
-    let task = Task {
-        program: loaded.program,
-        packet: Packet {
-            bytes: here.bytes,
-            wire: here.wire,
-        },
-        values: loaded.values,
-    };
+    let task = task_of(loaded.program, loaded.values, here);
     let before = meter.spent();
     // A packet has no more entries.
     let most = n.min(MAX_INSTRUCTIONS as u64) as u32;
@@ -224,10 +217,7 @@ pub(crate) fn step_back<T: Trail, A: Allocator>(
     }
     let to = cursor.place.step - b as u32;
     let item = loaded.capture.item_at(cursor.place.packet, cursor.start);
-    let packet = Packet {
-        bytes: item.bytes,
-        wire: item.wire,
-    };
+    let packet = packet_of(&item);
     let state = trail.back(meter, loaded.program, packet, loaded.values, to);
     cursor.state = state;
     cursor.place.step = to;

@@ -29,7 +29,7 @@ pub use equality::equal_where_same;
 pub use errors::{CommandFault, LoadFault, write_error};
 pub use law::{place_order, row_length};
 pub use loads::{write_capture, write_cut, write_program};
-pub use record::packet_of;
+pub use record::{packet_of, task_of};
 pub use reply::{Counts, Place, RunReply, SessionFault, Stop, Why};
 pub use stops::{write_stop_line, write_total};
 pub use values::write_value;

@@ -14,8 +14,8 @@ use crate::ended::{Decided, Ended};
 use crate::groups::Groups;
 use crate::question::Question;
 use cbpf_code::Program;
-use cbpf_machine::{Meter, Tally, Task, decided_end};
-use cbpf_reply::packet_of;
+use cbpf_machine::{Meter, Tally, decided_end};
+use cbpf_reply::task_of;
 use pcap_classic::Captured;
 use std::alloc::{AllocError, Allocator};
 
@@ -49,11 +49,7 @@ pub(crate) fn end_of<P: Allocator, const COPY: u32>(
     ensures inside { IsInside (length question.now.program.now) result }
 {
     let _sound = question.program.len();
-    let task = Task {
-        program: question.program,
-        packet: packet_of(item),
-        values: question.values,
-    };
+    let task = task_of(question.program, question.values, item);
     let decided = decided_end::<P, COPY>(&mut Meter::new(), &task);
     Decided::of(Ended::of(item.number, &decided.end), decided.choice)
 }
@@ -72,11 +68,7 @@ fn count_packet<P: Allocator, A: Allocator>(
         → spec.Tallies tally.new (machine_in question.now) (records ++ record_of item.now ∷ []) }
 {
     let _sound = question.program.len();
-    let task = Task {
-        program: question.program,
-        packet: packet_of(item),
-        values: question.values,
-    };
+    let task = task_of(question.program, question.values, item);
     let end = tally.count_packet(&mut Meter::new(), &task);
     Ended::of(item.number, &end)
 }

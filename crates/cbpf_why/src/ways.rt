@@ -15,7 +15,8 @@ ghost use Rattle.cbpf_why.specs.Ways as spec;
 
 use crate::ended::{Ended, deciding, prepend_reason_after, prepend_test, prepend_verdict};
 use cbpf_code::{Line, Op, Program, WriteFault, op_of, prepend_line, write_with_number};
-use cbpf_machine::{Choice, End, Meter, Packet, State, Turn, Values, turn};
+use cbpf_machine::{Choice, End, Meter, State, Turn, Values, turn};
+use cbpf_reply::packet_of;
 use pcap_classic::Captured;
 use std::alloc::Allocator;
 use std::io::Write;
@@ -137,10 +138,7 @@ fn write_steps<W: Write, A: Allocator>(
     ensures test { IfOk result (λ walked. walked.test ≡ option_map (spec.test_of p.now)
         (last_test p.now (trace (machine_of p.now values.now) item.now.bytes.now item.now.wire))) }
 {
-    let packet = Packet {
-        bytes: item.bytes,
-        wire: item.wire,
-    };
+    let packet = packet_of(item);
     let _sound = p.len();
     let mut meter = Meter::new();
     let mut s = State::zero();

@@ -11,7 +11,7 @@ pub returns-clause-found : goal.returns-clause-found
 returns-clause-found g c =
     let r : Record = record_of c.item-item.result in
     let at : slice_get (records_in c.args.loaded.now) (c.args.place.packet - 1) ≡ Some r = c.item-item.ensures.record in
-    let entry = c.in_ok-state.ensures.entry in
+    let entry = rw c.task_of-task.ensures at c.in_ok-state.ensures.entry in
     let within =
     slice_get_within (trace (machine_in c.args.loaded.now) r.bytes r.wire) (c.args.place.step - 1) _ entry in
     let keeps : Keeps (λ xs. g.T.Trail.stands_for c.go_to.new.self xs) (machine_in c.args.loaded.now)
@@ -19,7 +19,7 @@ returns-clause-found g c =
     let same : r ≡ q = cc in
     subst (λ (k : Record). g.T.Trail.stands_for c.go_to.new.self
     (take c.args.place.step (trace (machine_in c.args.loaded.now) k.bytes k.wire)))
-    same c.in_ok-state.ensures.stands in (
+    same (rw c.task_of-task.ensures at c.in_ok-state.ensures.stands) in (
       c.at.ensures.stands (machine_in c.args.loaded.now) (records_in c.args.loaded.now)
           c.args.loaded.now.sound (omega arith) (λ begun. (r, at, entry)),
       rw c.at.ensures.place keeps,

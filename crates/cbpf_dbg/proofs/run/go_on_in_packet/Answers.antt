@@ -12,12 +12,12 @@ pub front-here-requires : goal.front-here-requires
 front-here-requires g c = grind (arith, common_steps)
 
 pub follow_on-followed-requires-clause-sound : goal.follow_on-followed-requires-clause-sound
-follow_on-followed-requires-clause-sound g c = c.requires.can.stands.sound
+follow_on-followed-requires-clause-sound g c = rw c.task_of-task.ensures c.requires.can.stands.sound
 
 pub follow_on-followed-requires-clause-keeps : goal.follow_on-followed-requires-clause-keeps
 follow_on-followed-requires-clause-keeps g c =
     let here = first_left _ _ _ _ _ (first_of _ _ (sym c.front-here.ensures)) c.requires.can.left in
-    let begun : 0 < c.args.walk.now.cursor.place.step = omega (arith, c.if-walk-eq0.false) in (
+    let begun : 0 < c.args.walk.now.cursor.place.step = omega (arith, c.if-walk-eq0.false) in rw c.task_of-task.ensures (
       c.args.walk.now.cursor.place.step,
       keeps_to (λ xs. g.K.Keeper.stands_for c.args.keeper.now xs) _ _ _ (record_of c.front-here.result)
           c.requires.can.stands here begun c.requires.keeps,
@@ -33,8 +33,9 @@ apply-requires-clause-steps g c = λ n e.
     let begun : 0 < c.args.walk.now.cursor.place.step = omega (arith, c.if-walk-eq0.false) in
     let at = keeps_to (λ xs. g.K.Keeper.stands_for c.args.keeper.now xs) _ _ _ (record_of c.front-here.result)
     c.requires.can.stands here begun c.requires.keeps in
+    let follows = (rw c.task_of-task.ensures at c.follow_on-followed.ensures.follows) _ at in
     let fit = steps_fit _ _ _ (record_of c.front-here.result) c.requires.can.stands here _ n
-    c.follow_on-followed.new.state (rw e at (c.follow_on-followed.ensures.follows _ at)) in
+    c.follow_on-followed.new.state (rw e at follows) in
     omega (arith, fit)
 
 pub returns-in-Entry-clause-goes : goal.returns-in-Entry-clause-goes
@@ -44,11 +45,12 @@ returns-in-Entry-clause-goes g c =
     let begun : 0 < c.args.walk.now.cursor.place.step = omega (arith, c.if-walk-eq0.false) in
     let at = keeps_to (λ xs. g.K.Keeper.stands_for c.args.keeper.now xs) _ _ _ (record_of c.front-here.result)
     c.requires.can.stands here begun c.requires.keeps in
-    let turns = c.follow_on-followed.ensures.turns _ at in
+    let follows = (rw c.task_of-task.ensures at c.follow_on-followed.ensures.follows) _ at in
+    let turns = (rw c.task_of-task.ensures at c.follow_on-followed.ensures.turns) _ at in
     goes_to_entry _ _ (record_of c.front-here.result) c.requires.can.stands here _ c.follow_on-followed.result
     c.follow_on-followed.new.state c.apply.new.self c.args.meter.now c.follow_on-followed.new.meter
     c.args.walk.now.left _ _ c.requires.can.left c.requires.can.ends (c.requires.can.ends.later begun)
-    c.in-Entry.ensures.cursor (c.follow_on-followed.ensures.follows _ at) (omega (arith, turns, begun)) is
+    c.in-Entry.ensures.cursor follows (omega (arith, turns, begun)) is
     c.in-Entry.ensures.moved
 
 pub returns-in-Entry-clause-keeps : goal.returns-in-Entry-clause-keeps
@@ -57,9 +59,10 @@ returns-in-Entry-clause-keeps g c = λ _.
     let begun : 0 < c.args.walk.now.cursor.place.step = omega (arith, c.if-walk-eq0.false) in
     let at = keeps_to (λ xs. g.K.Keeper.stands_for c.args.keeper.now xs) _ _ _ (record_of c.front-here.result)
     c.requires.can.stands here begun c.requires.keeps in
+    let stands = (rw c.task_of-task.ensures at c.follow_on-followed.ensures.stands) _ at in
     keeps_followed (λ xs. g.K.Keeper.stands_for c.follow_on-followed.new.self xs) _ _ c.args.walk.now.cursor
     (record_of c.front-here.result) here c.follow_on-followed.result c.follow_on-followed.new.state moved.Entry
-    c.apply.new.self c.in-Entry.ensures.cursor c.in-Entry.ensures.moved (c.follow_on-followed.ensures.stands _ at) refl
+    c.apply.new.self c.in-Entry.ensures.cursor c.in-Entry.ensures.moved stands refl
 
 pub returns-clause-goes : goal.returns-clause-goes
 returns-clause-goes g c =
@@ -67,9 +70,9 @@ returns-clause-goes g c =
     let begun : 0 < c.args.walk.now.cursor.place.step = omega (arith, c.if-walk-eq0.false) in
     let at = keeps_to (λ xs. g.K.Keeper.stands_for c.args.keeper.now xs) _ _ _ (record_of c.front-here.result)
     c.requires.can.stands here begun c.requires.keeps in
-    let turns = c.follow_on-followed.ensures.turns _ at in
+    let follows = (rw c.task_of-task.ensures at c.follow_on-followed.ensures.follows) _ at in
+    let turns = (rw c.task_of-task.ensures at c.follow_on-followed.ensures.turns) _ at in
     goes_out _ _ (record_of c.front-here.result) c.requires.can.stands here _ c.follow_on-followed.result
     c.follow_on-followed.new.state c.apply.new.self c.args.meter.now c.follow_on-followed.new.meter
     c.args.walk.now.left _ _ c.requires.can.left c.requires.can.ends (c.requires.can.ends.later begun)
-    c.in_default.ensures.cursor (c.follow_on-followed.ensures.follows _ at) (omega (arith, turns, begun)) c.pass.ensures
-    c.in_default.ensures.moved
+    c.in_default.ensures.cursor follows (omega (arith, turns, begun)) c.pass.ensures c.in_default.ensures.moved

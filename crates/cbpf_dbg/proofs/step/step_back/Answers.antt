@@ -27,7 +27,7 @@ returns-clause-answer g c =
       within = omega arith;
       entry = (
         e,
-        rw (c.item_at-item.ensures.record, c.back-state.ensures.entry) refl,
+        rw (c.item_at-item.ensures.record, rw c.packet_of-packet.ensures at c.back-state.ensures.entry) refl,
         c.stop_at.ensures (record_of c.item_at-item.result),
       );
       place_is = refl;

@@ -16,7 +16,7 @@ apply-requires-clause-steps g c = λ n e.
     (records_in c.args.loaded.now) c.args.cursor.now (record_of c.args.here.now) (g.T.Trail.kept c.args.trail.now) c.requires.stands
     c.requires.here c.requires.begun c.requires.keeps (λ ys h. g.met.T.Trail.as_long c.args.trail.now ys h) in
     let fit = steps_fit_by _ _ c.args.cursor.now (record_of c.args.here.now) c.requires.stands c.requires.here c.requires.begun
-    c.min-most.result n c.advance-followed.new.s (rw (kept, e) at c.advance-followed.ensures.follows) in
+    c.min-most.result n c.advance-followed.new.s (rw (c.task_of-task.ensures, kept, e) at c.advance-followed.ensures.follows) in
     omega (arith, fit)
 
 pub returns-in-Entry : goal.returns-in-Entry
@@ -26,15 +26,15 @@ returns-in-Entry g c =
     c.requires.here c.requires.begun c.requires.keeps (λ ys h. g.met.T.Trail.as_long c.args.trail.now ys h) in
     let on = on_by _ _ c.args.cursor.now (record_of c.args.here.now) c.requires.stands c.requires.here c.requires.begun
     c.advance-followed.new.s c.apply.new.self c.min-most.result c.args.n c.args.meter.now c.advance-followed.new.meter
-    c.min-most.ensures (rw kept at c.advance-followed.ensures.turns) c.advance-followed.result c.in-Entry.ensures.moved
-    c.in-Entry.ensures.cursor (rw kept at c.advance-followed.ensures.follows) in
+    c.min-most.ensures (rw (c.task_of-task.ensures, kept) at c.advance-followed.ensures.turns) c.advance-followed.result
+    c.in-Entry.ensures.moved c.in-Entry.ensures.cursor (rw (c.task_of-task.ensures, kept) at c.advance-followed.ensures.follows) in
     record {
       stands = on.0;
       origin = search rules;
       keeps = λ _. keeps_followed (λ xs. g.T.Trail.stands_for c.advance-followed.new.self xs) _ _ c.args.cursor.now
           (record_of c.args.here.now) c.requires.here c.advance-followed.result c.advance-followed.new.s moved.Entry
           c.apply.new.self c.in-Entry.ensures.cursor c.in-Entry.ensures.moved
-          (rw kept at c.advance-followed.ensures.stands) refl;
+          (rw (c.task_of-task.ensures, kept) at c.advance-followed.ensures.stands) refl;
       on = λ _. on.1;
       out = tt;
     }
@@ -46,8 +46,8 @@ returns-in-Packet g c =
     c.requires.here c.requires.begun c.requires.keeps (λ ys h. g.met.T.Trail.as_long c.args.trail.now ys h) in
     let out = out_by _ _ c.args.cursor.now (record_of c.args.here.now) c.requires.stands c.requires.here c.requires.begun
     c.advance-followed.new.s c.apply.new.self c.min-most.result c.args.n c.args.meter.now c.advance-followed.new.meter
-    c.min-most.ensures (rw kept at c.advance-followed.ensures.turns) c.advance-followed.result c.in-Packet.ensures.moved
-    c.in-Packet.ensures.cursor (rw kept at c.advance-followed.ensures.follows) in
+    c.min-most.ensures (rw (c.task_of-task.ensures, kept) at c.advance-followed.ensures.turns) c.advance-followed.result
+    c.in-Packet.ensures.moved c.in-Packet.ensures.cursor (rw (c.task_of-task.ensures, kept) at c.advance-followed.ensures.follows) in
     record {
       stands = out.0;
       origin = search rules;

@@ -13,10 +13,10 @@ returns-clause-decided g c =
     let m = machine_in c.args.question.now in
     let r = record_of c.args.item.now in
     let ended = c.of.ensures ∙ ended-is m r c.decided_end-decided.result.end.last c.decided_end-decided.result.end.reason
-    (rw c.packet_of.ensures at c.decided_end-decided.ensures.last)
-    (rw c.packet_of.ensures at c.decided_end-decided.ensures.reason) in
+    (rw c.task_of-task.ensures at c.decided_end-decided.ensures.last)
+    (rw c.task_of-task.ensures at c.decided_end-decided.ensures.reason) in
     c.of-2.ensures ∙ decided-is m r c.of.result c.decided_end-decided.result.choice ended
-    (rw c.packet_of.ensures at c.decided_end-decided.ensures.choice)
+    (rw c.task_of-task.ensures at c.decided_end-decided.ensures.choice)
 
 pub returns-clause-inside : goal.returns-clause-inside
 returns-clause-inside g c =
@@ -26,9 +26,9 @@ returns-clause-inside g c =
       wire = c.args.item.now.wire;
     } in
     let pc : c.of.result.pc < length c.args.question.now.program.now =
-    rw (c.of.ensures, c.decided_end-decided.ensures.last, c.packet_of.ensures) (last_inside task c.len-sound.ensures.sound) in
+    rw (c.of.ensures, c.decided_end-decided.ensures.last, c.task_of-task.ensures) (last_inside task c.len-sound.ensures.sound) in
     let choice : IfSome c.decided_end-decided.result.choice (λ o. o.pc < length c.args.question.now.program.now) =
-    rw (c.decided_end-decided.ensures.choice, c.packet_of.ensures) (choice_inside task c.len-sound.ensures.sound) in
+    rw (c.decided_end-decided.ensures.choice, c.task_of-task.ensures) (choice_inside task c.len-sound.ensures.sound) in
     rw c.of-2.ensures (record {
       pc = pc;
       by = deciding_inside (λ (o : Choice). o.pc < length c.args.question.now.program.now) c.of.result.reason

@@ -28,32 +28,35 @@ turns-preserved g c =
       rises = omega (arith, c.turn-made.ensures.spent, before.rises, higher.0);
       written = rw c.turn-made.ensures.spent (steps-next before.here
           (step_text (machine_of c.args.p.now c.args.values.now) (record_of c.args.item.now)) _ _ _ before.written
-          (rw (c.next_state-next.ensures, made) at c.in_ok-write_step.ensures));
+          (rw (c.next_state-next.ensures, made, c.packet_of-packet.ensures) at c.in_ok-write_step.ensures));
       test = rw c.turn-made.ensures.spent (test_next before.here _ _ before.test c.test_after-test.ensures);
     }
 
 pub returns-in_err-write_step-clause-wrote : goal.returns-in_err-write_step-clause-wrote
 returns-in_err-write_step-clause-wrote g c =
     let before = c.turns.invariant in
-    err-exit _ _ _ _ c.from_residual.ensures.0 (steps-stop before.here
+    err-exit _ _ _ _ c.from_residual.ensures.0 (rw c.packet_of-packet.ensures at (steps-stop before.here
     (step_text (machine_of c.args.p.now c.args.values.now) (record_of c.args.item.now)) _ _ _ before.written
-    (rw (c.next_state-next.ensures, c.turn-made.ensures.value) at c.in_err-write_step.ensures))
+    (rw (c.next_state-next.ensures, c.turn-made.ensures.value, c.packet_of-packet.ensures) at c.in_err-write_step.ensures)))
 
 pub returns-in-None-clause-wrote : goal.returns-in-None-clause-wrote
 returns-in-None-clause-wrote g c =
     let before = c.turns.invariant in
-    steps-done before.here (step_text (machine_of c.args.p.now c.args.values.now) (record_of c.args.item.now)) _ _ _
+    rw c.packet_of-packet.ensures at (steps-done before.here
+    (step_text (machine_of c.args.p.now c.args.values.now) (record_of c.args.item.now)) _ _ _
     (rw (c.next_state-next.ensures, c.turn-made.ensures.value) at c.in-None.is) before.written
-    (rw (c.next_state-next.ensures, c.turn-made.ensures.value) at c.in_ok-write_step.ensures)
+    (rw (c.next_state-next.ensures, c.turn-made.ensures.value, c.packet_of-packet.ensures) at c.in_ok-write_step.ensures))
 
 pub returns-in-None-clause-ended : goal.returns-in-None-clause-ended
 returns-in-None-clause-ended g c =
     let last = last_is c.turns.invariant.here (rw (c.next_state-next.ensures, c.turn-made.ensures.value) at c.in-None.is) in
-    rw (c.pc.ensures, c.end_by.ensures, c.turn-made.ensures.value)
-    (ap (ended_at (machine_of c.args.p.now c.args.values.now) (record_of c.args.item.now)) last)
+    rw (c.pc.ensures, c.end_by.ensures, c.turn-made.ensures.value, c.packet_of-packet.ensures)
+    (ap (ended_at (machine_of c.args.p.now c.args.values.now) (record_of c.args.item.now))
+    (rw c.packet_of-packet.ensures at last))
 
 pub returns-in-None-clause-test : goal.returns-in-None-clause-test
 returns-in-None-clause-test g c =
     let before = c.turns.invariant in
-    test_last before.here _ (rw (c.next_state-next.ensures, c.turn-made.ensures.value) at c.in-None.is)
-    (test_next before.here _ _ before.test c.test_after-test.ensures)
+    rw c.packet_of-packet.ensures at (test_last before.here _
+    (rw (c.next_state-next.ensures, c.turn-made.ensures.value) at c.in-None.is)
+    (test_next before.here _ _ before.test c.test_after-test.ensures))
