@@ -2,20 +2,20 @@
 -- and the outcomes of packets (this project's own, over the trace of Linux Documentation/networking/filter's machine
 -- and the records of pcap-savefile(5)).
 use Rattle.std.specs.Prelude.{ℕ, ◌+◌, ◌-◌, ◌||◌, Bool, List, [], ◌∷◌, ◌++◌, length}
-use Rattle.std.specs.Prelude.{map, filter, take, drop, count_by, is_some}
+use Rattle.std.specs.Prelude.{map, filter, take, drop, is_some}
 use Rattle.std.specs.Option.{option_map_or}
 use Rattle.cbpf_machine.specs.Registers.{Registers}
 use Rattle.cbpf_machine.specs.declared.outcome.Turn.{Turn}
 use Rattle.cbpf_machine.specs.declared.outcome.Outcome.{Outcome}
 use Rattle.cbpf_machine.specs.Machine.{Machine}
-use Rattle.cbpf_machine.specs.Outcomes.{is_fail, is_pass, is_unknown}
 use Rattle.cbpf_machine.specs.Turn.{turn, asked}
-use Rattle.cbpf_machine.specs.Trace.{trace, outcome}
+use Rattle.cbpf_machine.specs.Trace.{trace}
 use Rattle.pcap_classic.specs.Records.{Record}
 use Rattle.cbpf_reply.specs.declared.reply.Place.{Place}
 use Rattle.cbpf_reply.specs.declared.reply.Stop.{Stop}
 use Rattle.cbpf_reply.specs.declared.reply.Why.{Why}
 use Rattle.cbpf_reply.specs.declared.reply.Why.TheVariants as why
+use Rattle.cbpf_reply.specs.Counts.{counts_of, outcomes_of}
 use Rattle.cbpf_reply.specs.declared.reply.Counts.{Counts}
 use Rattle.cbpf_reply.specs.Places.{is_before}
 use Rattle.cbpf_dbg.specs.Breakpoints.{Breakpoints, carries}
@@ -81,14 +81,11 @@ stops_after machine capture breakpoints place = stops_of breakpoints (entries_af
 
 -- the outcomes of the packets from a number up to, not including, another
 abbrev pub outcomes : Machine → List Record → ℕ → ℕ → List Outcome
-outcomes machine capture from to =
-    map (λ r. outcome machine r.bytes r.wire) (take (to - from) (drop (from - 1) capture))
+outcomes machine capture from to = outcomes_of machine (take (to - from) (drop (from - 1) capture))
 
 -- how many of these packets pass, fail, and ask for an extension without a value
 unfoldable pub counts : Machine → List Record → ℕ → ℕ → Counts
-counts machine capture from to =
-    let all = outcomes machine capture from to in
-    record { passes = count_by is_pass all; fails = count_by is_fail all; unknown = count_by is_unknown all }
+counts machine capture from to = counts_of (outcomes machine capture from to)
 
 -- the place one step earlier, so that the entries after it are those from the place on; at step 0 the place itself
 abbrev pub place_before : Place → Place

@@ -1,9 +1,22 @@
 -- Places, and counts of packets (the kernel's Documentation/networking/filter shows the counts of `run` for
 -- `bpf_dbg`; the rest is this project's own).
-use Rattle.std.specs.Prelude.{ℕ, ◌==◌, if◌then◌else◌, List, [], ◌∷◌, ◌++◌, codes, decimal}
+use Rattle.std.specs.Prelude.{ℕ, ◌==◌, if◌then◌else◌, List, [], ◌∷◌, ◌++◌, codes, count_by, decimal, map}
 use Rattle.cbpf_code.specs.Text.{concat, with_number, with_numbers}
+use Rattle.cbpf_machine.specs.Machine.{Machine}
+use Rattle.cbpf_machine.specs.Outcomes.{is_fail, is_pass, is_unknown}
+use Rattle.cbpf_machine.specs.Trace.{outcome}
+use Rattle.cbpf_machine.specs.declared.outcome.Outcome.{Outcome}
+use Rattle.pcap_classic.specs.Records.{Record}
 use Rattle.cbpf_reply.specs.declared.reply.Counts.{Counts}
 use Rattle.cbpf_reply.specs.declared.reply.Place.{Place}
+
+-- the outcomes of packets
+abbrev pub outcomes_of : Machine → List Record → List Outcome
+outcomes_of machine records = map (λ r. outcome machine r.bytes r.wire) records
+
+-- how many of them pass, fail, and ask for an extension without a value
+abbrev pub counts_of : List Outcome → Counts
+counts_of all = record { passes = count_by is_pass all; fails = count_by is_fail all; unknown = count_by is_unknown all }
 
 -- a place after a text
 abbrev pub place_after : List ℕ → Place → List ℕ

@@ -12,10 +12,11 @@ use Rattle.cbpf_machine.specs.declared.outcome.Outcome.{Outcome}
 use Rattle.cbpf_machine.specs.declared.outcome.Outcome.TheVariants as of_packet
 use Rattle.cbpf_machine.specs.declared.outcome.Turn.{Turn}
 use Rattle.cbpf_machine.specs.declared.outcome.Turn.TheVariants as turn_is
+use Rattle.cbpf_reply.specs.Counts.{counts_of, outcomes_of}
 use Rattle.pcap_classic.specs.Records.{Record}
 use Rattle.cbpf_why.specs.Ends.{decided, decided_of, end_by, ended, ends_of, is_verdict, kind_of, verdict_of}
 use Rattle.cbpf_why.specs.Groups.{all_totals, counted_of, count_of, totals}
-use Rattle.cbpf_why.specs.Laws.{TotalsCountOutcomes, VerdictIsOutcome, counts_of, outcomes_of}
+use Rattle.cbpf_why.specs.Laws.{TotalsCountOutcomes, VerdictIsOutcome}
 use Rattle.cbpf_why.specs.declared.ended.Verdict.{Verdict}
 use Rattle.cbpf_why.specs.declared.ended.Verdict.TheVariants.{Pass, Fail, Unknown}
 

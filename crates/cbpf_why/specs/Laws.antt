@@ -1,15 +1,14 @@
 -- What the verdicts and the totals of a report are, by the outcomes of packets (Linux Documentation/networking/filter: a
--- packet passes where a run of the filter on it returns a number other than 0); that a text is one filter or none; and what the packets of a group share.
-use Rattle.std.specs.Prelude.{◌≡◌, ◌≢◌, ◌<◌, ◌*◌, ◌+◌, ℕ, zero, suc, true, List, length, map, count_by}
+-- packet passes where a run of the filter on it returns a number other than 0); that a text is one filter or none; and
+-- what the packets of a group share.
+use Rattle.std.specs.Prelude.{◌≡◌, ◌≢◌, ◌<◌, ◌*◌, ◌+◌, ℕ, zero, suc, true, List, length}
 use Rattle.cbpf_code.specs.Sound.{IsSound}
 use Rattle.cbpf_code.specs.declared.insn.Insn.{Insn}
 use Rattle.cbpf_machine.specs.declared.outcome.End.{End}
 use Rattle.cbpf_machine.specs.declared.outcome.End.TheVariants.{Returned, Outside, ZeroDivisor, Unknown}
 use Rattle.cbpf_machine.specs.Machine.{Machine}
-use Rattle.cbpf_machine.specs.Outcomes.{is_fail, is_pass, is_unknown}
 use Rattle.cbpf_machine.specs.Trace.{outcome}
-use Rattle.cbpf_machine.specs.declared.outcome.Outcome.{Outcome}
-use Rattle.cbpf_reply.specs.declared.reply.Counts.{Counts}
+use Rattle.cbpf_reply.specs.Counts.{counts_of, outcomes_of}
 use Rattle.pcap_classic.specs.Records.{Record}
 use Rattle.cbpf_why.specs.declared.ended.Decided.{Decided}
 use Rattle.cbpf_why.specs.declared.ended.Verdict.{Verdict}
@@ -17,14 +16,6 @@ use Rattle.cbpf_why.specs.declared.filter.FilterFault.{FilterFault, TheVariants.
 use Rattle.cbpf_why.specs.Filters.{IsFilter, IsNoFilter}
 use Rattle.cbpf_why.specs.Ends.{decided, decided_of, ended, ends_of, kind_of, verdict_of}
 use Rattle.cbpf_why.specs.Groups.{count_of, group, is_in_group, row, totals}
-
--- the outcomes of packets
-abbrev pub outcomes_of : Machine → List Record → List Outcome
-outcomes_of m records = map (λ r. outcome m r.bytes r.wire) records
-
--- how many outcomes there are of each kind
-abbrev pub counts_of : List Outcome → Counts
-counts_of all = record { passes = count_by is_pass all; fails = count_by is_fail all; unknown = count_by is_unknown all }
 
 -- the verdict on a packet is the kind of its outcome
 abbrev pub VerdictIsOutcome : Type 0

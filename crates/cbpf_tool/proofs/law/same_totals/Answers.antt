@@ -8,7 +8,7 @@ use Rattle.cbpf_dbg.specs.Registers.{Registers}
 use Rattle.cbpf_dbg.specs.Trace.{trace}
 use Rattle.cbpf_dbg.specs.Turn.{turn}
 use Rattle.cbpf_why.proofs.LawLemmas.{totals_count_outcomes}
-use Rattle.cbpf_why.specs.Laws.{counts_of, outcomes_of}
+use Rattle.cbpf_reply.specs.Counts.{counts_of, outcomes_of}
 use Rattle.cbpf_why.specs.Runs.{executed}
 use Rattle.cbpf_tool.specs.Totals.{RunsCountEntries, SameTotals}
 use Rattle.cbpf_tool.proofs.law.same_totals.Goals as goal
