@@ -13,8 +13,8 @@ use Rattle.cbpf_machine.specs.Turn.{turn}
 use Rattle.cbpf_machine.specs.declared.pause.When.{When}
 use Rattle.cbpf_machine.specs.declared.pause.When.TheVariants.{Always}
 use Rattle.cbpf_dbg.specs.Breakpoints.{Breakpoints, carries}
-use Rattle.cbpf_dbg.specs.Joined.{asks}
-use Rattle.cbpf_dbg.specs.Session.{IsSameBut, IsKnown, KeepsRoom, Watches, hits}
+use Rattle.cbpf_dbg.specs.Joined.{asks, is_hit_by}
+use Rattle.cbpf_dbg.specs.Session.{IsSameBut, IsKnown, KeepsRoom, Watches}
 
 -- where an extension without a value is asked for each entry is a hit, and else those at a breakpoint
 or_true : (b : Bool) → (b || true) ≡ true
@@ -26,13 +26,13 @@ or_false true = refl
 or_false false = refl
 
 pub hits_unknown : (machine : Machine) (breakpoints : Breakpoints) (bytes : List ℕ) (wire : ℕ) (s : Registers)
-    → asks (turn machine bytes wire s) ≡ true → hits machine breakpoints bytes wire s ≡ true
+    → asks (turn machine bytes wire s) ≡ true → is_hit_by breakpoints s (turn machine bytes wire s) ≡ true
 hits_unknown machine breakpoints bytes wire s unknown = rw unknown (or_true (carries breakpoints s))
 
 pub hits_carried : (machine : Machine) (breakpoints : Breakpoints) (bytes : List ℕ) (wire : ℕ) (s : Registers) (i : ℕ)
     (found : Option When) → asks (turn machine bytes wire s) ≡ false → s.pc ≡ i
     → lookup (nat_eq i) breakpoints ≡ found
-    → hits machine breakpoints bytes wire s ≡ is_met found s
+    → is_hit_by breakpoints s (turn machine bytes wire s) ≡ is_met found s
 hits_carried machine breakpoints bytes wire s i found known here is =
     let at : lookup (nat_eq s.pc) breakpoints ≡ found = rw here is in
     rw known (or_false (carries breakpoints s)) ∙ ap (λ o. is_met o s) at

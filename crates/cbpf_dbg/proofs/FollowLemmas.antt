@@ -10,6 +10,7 @@ use Rattle.cbpf_machine.specs.Registers.{Registers, zero_state}
 use Rattle.cbpf_machine.specs.declared.follow.Followed.{Followed}
 use Rattle.cbpf_machine.specs.declared.follow.Followed.TheVariants.{Paused, Ended}
 use Rattle.cbpf_machine.specs.Trace.{trace, outcome}
+use Rattle.cbpf_machine.specs.Turn.{turn}
 use Rattle.cbpf_machine.specs.Follow.{follow_ahead, unpaused_len}
 use Rattle.cbpf_machine.specs.Together.{Unpaused}
 use Rattle.cbpf_machine.proofs.FollowLemmas.{PausesFirst, ended_of, paused_of}
@@ -21,8 +22,7 @@ use Rattle.cbpf_dbg.specs.declared.loaded.Loaded.{Loaded}
 use Rattle.cbpf_dbg.specs.Loaded.{machine_in, records_in}
 use Rattle.cbpf_dbg.specs.declared.cursor.Moved.TheVariants as moved
 use Rattle.cbpf_dbg.specs.Breakpoints.{Breakpoints}
-use Rattle.cbpf_dbg.specs.Joined.{entries_after, stops_of, stops_after, entries_from, joined_from}
-use Rattle.cbpf_dbg.specs.Session.{hits}
+use Rattle.cbpf_dbg.specs.Joined.{entries_after, entries_from, is_hit_by, joined_from, stops_after, stops_of}
 use Rattle.cbpf_dbg.specs.Cursor.{AreLeft, IsEnd, Stands, followed, moved_by, owed, passed}
 use Rattle.cbpf_dbg.specs.Going.{Covers, GoesOn}
 use Rattle.cbpf_dbg.proofs.JoinedLemmas.{place_at, ahead-in, ahead-entry, ahead-leave, not_before_on, not_before_past}
@@ -86,7 +86,7 @@ module _ (machine : Machine) (capture : List Record) (w : Cursor) (r : Record) (
     -- none of the packet's entries from one place of its trace up to another is a hit
     abbrev pub NoHits : ℕ → ℕ → Type 0
     NoHits k m = (i : ℕ) (s : Registers) → k ≤ i → i < m → slice_get xs i ≡ Some s
-        → hits machine breakpoints r.bytes r.wire s ≡ false
+        → is_hit_by breakpoints s (turn machine r.bytes r.wire s) ≡ false
 
     -- n entries from a step on that are no hits are passed
     entries-passed : (k n m : ℕ) → k + n ≡ m → m ≤ length xs → NoHits k m
@@ -104,7 +104,7 @@ module _ (machine : Machine) (capture : List Record) (w : Cursor) (r : Record) (
   module _ (breakpoints : Breakpoints) (pauses : Registers → Bool) (covers : Covers pauses machine breakpoints) where
     no_hits : (m : ℕ) → Unpaused pauses xs w.place.step m → NoHits breakpoints w.place.step m
     no_hits m unpaused = λ i s from to there.
-        not_covered pauses (hits machine breakpoints r.bytes r.wire s) s (covers r.bytes r.wire s
+        not_covered pauses (is_hit_by breakpoints s (turn machine r.bytes r.wire s)) s (covers r.bytes r.wire s
         (goes_from_entry _ h.sound i s there).inside)
         (unpaused i s from to there)
 

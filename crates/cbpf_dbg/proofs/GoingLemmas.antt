@@ -5,6 +5,7 @@ use Rattle.std.specs.Prelude.{Some, slice_get}
 use Rattle.cbpf_machine.specs.Follow.{is_watched}
 use Rattle.cbpf_machine.specs.Machine.{Machine}
 use Rattle.cbpf_machine.specs.Registers.{Registers}
+use Rattle.cbpf_machine.specs.Turn.{turn}
 use Rattle.pcap_classic.specs.Records.{Record}
 use Rattle.cbpf_reply.specs.declared.reply.Why.TheVariants as why
 use Rattle.cbpf_dbg.specs.declared.cursor.Cursor.{Cursor}
@@ -12,8 +13,7 @@ use Rattle.cbpf_dbg.specs.declared.cursor.Walk.{Walk}
 use Rattle.cbpf_dbg.specs.declared.loaded.Loaded.{Loaded}
 use Rattle.cbpf_dbg.specs.Loaded.{machine_in, records_in, breakpoints_in}
 use Rattle.cbpf_dbg.specs.Breakpoints.{Breakpoints}
-use Rattle.cbpf_dbg.specs.Joined.{entries_after, stops_after, stop_at, place_before}
-use Rattle.cbpf_dbg.specs.Session.{hits}
+use Rattle.cbpf_dbg.specs.Joined.{entries_after, is_hit_by, stops_after, stop_at, place_before}
 use Rattle.cbpf_dbg.specs.Cursor.{Stands, Passes, entry_here}
 use Rattle.cbpf_dbg.specs.Going.{Covers, GoesOn}
 use Rattle.cbpf_dbg.proofs.CursorLemmas.{goes, entry_at_place}
@@ -40,7 +40,7 @@ module _ (machine : Machine) (capture : List Record) (w : Cursor) (r : Record) (
       rw i at (ahead-entry machine capture w.place.packet (w.place.step - 1) r w.state one at
       (entry_at_place machine capture w r h at begun))
 
-  pub hits_hit : (breakpoints : Breakpoints) → hits machine breakpoints r.bytes r.wire w.state ≡ true
+  pub hits_hit : (breakpoints : Breakpoints) → is_hit_by breakpoints w.state (turn machine r.bytes r.wire w.state) ≡ true
       → stops_after machine capture breakpoints (place_before w.place)
       ≡ stop_at why.Break (entry_here machine r w) ∷ stops_after machine capture breakpoints w.place
   hits_hit breakpoints hit = rw (entry_first, hit) refl

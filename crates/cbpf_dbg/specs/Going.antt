@@ -3,13 +3,14 @@ use Rattle.std.specs.Prelude.{◌≡◌, ℕ, ◌+◌, ◌*◌, ◌<◌, ◌≤�
 use Rattle.cbpf_code.specs.declared.checker.TheConstants.{MAX_INSTRUCTIONS}
 use Rattle.cbpf_machine.specs.Machine.{Machine}
 use Rattle.cbpf_machine.specs.Registers.{Registers}
+use Rattle.cbpf_machine.specs.Turn.{turn}
 use Rattle.cbpf_reply.specs.declared.reply.Place.{Place}
 use Rattle.cbpf_dbg.specs.declared.cursor.Walk.{Walk}
 use Rattle.cbpf_dbg.specs.declared.loaded.Loaded.{Loaded}
 use Rattle.cbpf_dbg.specs.Loaded.{machine_in, records_in, breakpoints_in}
 use Rattle.cbpf_dbg.specs.Breakpoints.{Breakpoints}
-use Rattle.cbpf_dbg.specs.Joined.{stops_after, place_before}
-use Rattle.cbpf_dbg.specs.Session.{hits, Keeps}
+use Rattle.cbpf_dbg.specs.Joined.{is_hit_by, stops_after, place_before}
+use Rattle.cbpf_dbg.specs.Session.{Keeps}
 use Rattle.cbpf_dbg.specs.Cursor.{Stands, IsEnd, AreLeft, Passes, owed}
 
 -- a trail stands for the entries of a place's packet up to its step
@@ -19,7 +20,7 @@ KeepsIn stands_for l place = Keeps stands_for (machine_in l) (records_in l) plac
 -- a run pauses at each entry that is a hit
 abbrev pub Covers : (Registers → Bool) → Machine → Breakpoints → Type 0
 Covers pauses machine breakpoints = (bytes : List ℕ) (wire : ℕ) (s : Registers) → s.pc < length machine.list
-    → hits machine breakpoints bytes wire s ≡ true → pauses s ≡ true
+    → is_hit_by breakpoints s (turn machine bytes wire s) ≡ true → pauses s ≡ true
 
 -- a run can go on over the records that are left, up to its end
 pub record CanGoOn {A : Type 0} (l : Loaded A) (w : Walk) (spent : ℕ) : Type 0 where

@@ -54,10 +54,14 @@ entries_after machine capture place = filter (λ e. is_before place e.place) (jo
 abbrev pub asks : Turn → Bool
 asks t = is_some (asked t)
 
--- an entry is a hit where its instruction carries a breakpoint whose condition holds, or its turn asks for an
--- extension without a value
+-- an entry with this state and this turn is a hit where its instruction carries a breakpoint whose condition holds, or
+-- its turn asks for an extension without a value
+abbrev pub is_hit_by : Breakpoints → Registers → Turn → Bool
+is_hit_by breakpoints s t = carries breakpoints s || asks t
+
+-- whether an entry is a hit
 abbrev pub is_hit : Breakpoints → Entry → Bool
-is_hit breakpoints e = carries breakpoints e.state || asks e.turn
+is_hit breakpoints e = is_hit_by breakpoints e.state e.turn
 
 -- why an entry stops: its turn asks for an extension without a value, else the reason given
 abbrev pub why_of : Why → Turn → Why

@@ -1,6 +1,6 @@
 -- How the parts of a session fit together. No public clause names it.
 use Rattle.std.specs.Prelude.{◌≡◌, ℕ, ◌-◌, ◌<◌, ◌≤◌, List, Bool, true, Option, Some, None, length, take}
-use Rattle.std.specs.Prelude.{◌≢◌, slice_get, nat_eq, ◌||◌}
+use Rattle.std.specs.Prelude.{◌≢◌, slice_get, nat_eq}
 use Rattle.std.specs.Map.{lookup}
 use Rattle.cbpf_machine.specs.declared.pause.When.{When}
 use Rattle.cbpf_code.specs.declared.insn.Insn.{Insn}
@@ -16,7 +16,7 @@ use Rattle.pcap_classic.specs.Savefile.{Savefile}
 use Rattle.cbpf_reply.specs.declared.reply.Place.{Place}
 use Rattle.cbpf_dbg.specs.declared.cursor.Cursor.{Cursor}
 use Rattle.cbpf_dbg.specs.Breakpoints.{Breakpoints, carries}
-use Rattle.cbpf_dbg.specs.Joined.{asks}
+use Rattle.cbpf_dbg.specs.Joined.{is_hit_by}
 use Rattle.cbpf_dbg.specs.View.{first_place}
 use Rattle.cbpf_dbg.specs.Cursor.{Stands}
 
@@ -48,14 +48,10 @@ abbrev pub NeedsNoValue : Machine → Type 0
 NeedsNoValue machine = (bytes : List ℕ) (wire : ℕ) (s : Registers) → s.pc < length machine.list
     → asked (turn machine bytes wire s) ≡ None
 
--- whether an entry with this state is a hit
-abbrev pub hits : Machine → Breakpoints → List ℕ → ℕ → Registers → Bool
-hits machine breakpoints bytes wire s = carries breakpoints s || asks (turn machine bytes wire s)
-
 -- at the first n instructions the entries that are watched are the hits
 abbrev pub WatchesTo : Watching → Machine → Breakpoints → ℕ → Type 0
 WatchesTo watched machine breakpoints n = (bytes : List ℕ) (wire : ℕ) (s : Registers) → s.pc < n
-    → is_watched watched s ≡ hits machine breakpoints bytes wire s
+    → is_watched watched s ≡ is_hit_by breakpoints s (turn machine bytes wire s)
 
 -- at all of them, and the others are carried out by their own code
 pub record Watches (watched : Watching) (machine : Machine) (breakpoints : Breakpoints) : Type 0 where

@@ -6,8 +6,10 @@ ghost use Rattle.std.specs.Map.{lookup};
 ghost use Rattle.cbpf_machine.specs.Follow.{HasRoom, IsSameAt, is_met, room_in};
 ghost use Rattle.cbpf_machine.specs.Machine.{machine_of};
 ghost use Rattle.cbpf_machine.specs.Registers.{Registers};
+ghost use Rattle.cbpf_machine.specs.Turn.{turn};
 ghost use Rattle.cbpf_dbg.specs.Breakpoints.{Breakpoints as SomeBreakpoints};
-ghost use Rattle.cbpf_dbg.specs.Session.{NeedsNoValue, IsSameBut, KeepsRoom, Watches, hits};
+ghost use Rattle.cbpf_dbg.specs.Joined.{is_hit_by};
+ghost use Rattle.cbpf_dbg.specs.Session.{NeedsNoValue, IsSameBut, KeepsRoom, Watches};
 
 use crate::loaded::Breakpoints;
 use cbpf_code::Program;
@@ -35,7 +37,7 @@ fn watch_of<A: Allocator>(
 ) -> Option<When>
     requires { i < length p.now }
     ensures holds { (bytes : List ℕ) (wire : ℕ) (s : Registers) → s.pc ≡ i
-        → is_met result s ≡ hits (machine_of p.now values.now) breakpoints.now.entries bytes wire s }
+        → is_met result s ≡ is_hit_by breakpoints.now.entries s (turn (machine_of p.now values.now) bytes wire s) }
     ensures room { (room : ℕ) → KeepsRoom breakpoints.now.entries room → HasRoom result i room }
 {
     if missing_extension(p.at_index(i), values).is_some() {
