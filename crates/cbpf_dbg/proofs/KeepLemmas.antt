@@ -9,7 +9,8 @@ use Rattle.cbpf_machine.specs.Trace.{trace}
 use Rattle.pcap_classic.specs.Records.{Record}
 use Rattle.cbpf_reply.specs.declared.reply.Place.{Place}
 use Rattle.cbpf_dbg.specs.declared.cursor.Cursor.{Cursor}
-use Rattle.cbpf_dbg.specs.Session.{Keeps, KeepsTo}
+use Rattle.cbpf_dbg.specs.Here.{Keeps}
+use Rattle.cbpf_dbg.specs.Session.{KeepsTo}
 use Rattle.cbpf_machine.specs.declared.follow.Followed.{Followed}
 use Rattle.cbpf_machine.specs.declared.follow.Followed.TheVariants.{Paused, Ended}
 use Rattle.cbpf_dbg.specs.declared.cursor.Moved.{Moved}

@@ -10,7 +10,7 @@ use Rattle.cbpf_dbg.specs.declared.loaded.Loaded.{Loaded}
 use Rattle.cbpf_dbg.specs.Loaded.{machine_in, records_in, breakpoints_in}
 use Rattle.cbpf_dbg.specs.Breakpoints.{Breakpoints}
 use Rattle.cbpf_dbg.specs.Joined.{is_hit_by, stops_after, place_before}
-use Rattle.cbpf_dbg.specs.Session.{Keeps}
+use Rattle.cbpf_dbg.specs.Here.{Keeps}
 use Rattle.cbpf_dbg.specs.Cursor.{Stands, IsEnd, AreLeft, Passes, owed}
 
 -- a trail stands for the entries of a place's packet up to its step

@@ -48,8 +48,12 @@ abbrev pub StepStopsHere : View → RunReply → Type 0
 StepStopsHere m (Stopped stop) = (reason : Why) × (stop_here m ≡ Some (record stop { why = reason }))
 StepStopsHere m _ = Unit {0}
 
--- a trail stands for the entries of the place's packet, up to the place
+-- a trail stands for the entries of a place's packet, up to the place
+abbrev pub Keeps : (List Registers → Type 0) → Machine → List Record → Place → Type 0
+Keeps stands_for machine capture place = (r : Record) → slice_get capture (place.packet - 1) ≡ Some r
+    → stands_for (take place.step (trace machine r.bytes r.wire))
+
+-- the same of the place of a session, where a program and a capture are loaded
 abbrev pub KeepsEntries : (List Registers → Type 0) → View → Type 0
-KeepsEntries stands_for m = (list : List Insn) (c : Savefile) (r : Record) → m.program ≡ Some list
-    → m.capture ≡ Some c → slice_get c.records (m.place.packet - 1) ≡ Some r
-    → stands_for (take m.place.step (trace (machine_of list m.values) r.bytes r.wire))
+KeepsEntries stands_for m = (list : List Insn) (c : Savefile) → m.program ≡ Some list → m.capture ≡ Some c
+    → Keeps stands_for (machine_of list m.values) c.records m.place

@@ -1,6 +1,6 @@
 -- How the parts of a session fit together. No public clause names it.
-use Rattle.std.specs.Prelude.{◌≡◌, ℕ, ◌-◌, ◌<◌, ◌≤◌, List, Bool, true, Option, Some, None, length, take}
-use Rattle.std.specs.Prelude.{◌≢◌, slice_get, nat_eq}
+use Rattle.std.specs.Prelude.{◌≡◌, ℕ, ◌<◌, ◌≤◌, List, Bool, true, Option, Some, None, length, take}
+use Rattle.std.specs.Prelude.{◌≢◌, nat_eq}
 use Rattle.std.specs.Map.{lookup}
 use Rattle.cbpf_machine.specs.declared.pause.When.{When}
 use Rattle.cbpf_code.specs.declared.insn.Insn.{Insn}
@@ -10,7 +10,7 @@ use Rattle.cbpf_machine.specs.Values.{Values}
 use Rattle.cbpf_machine.specs.Machine.{Machine, machine_of}
 use Rattle.cbpf_machine.specs.Turn.{turn, asked}
 use Rattle.cbpf_machine.specs.Follow.{Watching, Knows, KnowsEach, is_watched, room_in}
-use Rattle.cbpf_machine.specs.Trace.{trace, entry_at}
+use Rattle.cbpf_machine.specs.Trace.{entry_at}
 use Rattle.pcap_classic.specs.Records.{Record, StartsAt}
 use Rattle.pcap_classic.specs.Savefile.{Savefile}
 use Rattle.cbpf_reply.specs.declared.reply.Place.{Place}
@@ -19,12 +19,7 @@ use Rattle.cbpf_dbg.specs.Breakpoints.{Breakpoints, carries}
 use Rattle.cbpf_dbg.specs.Joined.{is_hit_by}
 use Rattle.cbpf_dbg.specs.View.{first_place}
 use Rattle.cbpf_dbg.specs.Cursor.{Stands}
-
--- a trail stands for the entries of the place's packet up to its step
-abbrev pub Keeps : (List Registers → Type 0) → Machine → List Record → Place → Type 0
-Keeps stands_for machine capture place =
-    (r : Record) → slice_get capture (place.packet - 1) ≡ Some r
-    → stands_for (take place.step (trace machine r.bytes r.wire))
+use Rattle.cbpf_dbg.specs.Here.{Keeps}
 
 -- the state is the k-th of some entries, counted from 1, and what is kept stands for the entries up to it
 pub record KeepsTo (stands_for : List Registers → Type 0) (xs : List Registers) (k : ℕ) (s : Registers) : Type 0 where

@@ -4,7 +4,7 @@ ghost use Rattle.std.specs.Prelude.{◌≡◌, ◌+◌, ◌-◌, ◌*◌, ◌<�
 ghost use Rattle.pcap_classic.specs.Records.{StartsAt};
 ghost use Rattle.cbpf_dbg.specs.Commands.{steps_of};
 ghost use Rattle.cbpf_dbg.specs.Loaded.{machine_in, records_in};
-ghost use Rattle.cbpf_dbg.specs.Session.{Keeps};
+ghost use Rattle.cbpf_dbg.specs.Here.{Keeps};
 ghost use Rattle.cbpf_dbg.specs.Cursor.{Stands};
 
 use crate::cursor::Cursor;

@@ -3,7 +3,7 @@ use Rattle.std.proofs.lemmas.Option.{slice_get_within}
 use Rattle.cbpf_machine.specs.Trace.{trace}
 use Rattle.pcap_classic.specs.Records.{Record}
 use Rattle.pcap_classic.specs.Lent.{record_of}
-use Rattle.cbpf_dbg.specs.Session.{Keeps}
+use Rattle.cbpf_dbg.specs.Here.{Keeps}
 use Rattle.cbpf_dbg.specs.Loaded.{machine_in, records_in}
 use Rattle.cbpf_dbg.proofs.resume.resume_at.Goals as goal
 

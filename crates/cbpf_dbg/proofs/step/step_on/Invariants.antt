@@ -1,7 +1,7 @@
 use Rattle.std.proofs.Common.{◌+◌, length}
 use Rattle.cbpf_dbg.specs.Joined.{entries_after}
 use Rattle.cbpf_dbg.specs.Cursor.{Nears, AreLeft}
-use Rattle.cbpf_dbg.specs.Session.{Keeps}
+use Rattle.cbpf_dbg.specs.Here.{Keeps}
 use Rattle.cbpf_dbg.specs.Loaded.{machine_in, records_in}
 use Rattle.cbpf_dbg.proofs.step.step_on.Given as goal
 
