@@ -3,9 +3,10 @@
 -- instruction with the same verdict a node in the colour of the verdict. A block, an instruction or a way that never
 -- ran is grey (this project's own; labels and their tags are those of Graphviz's "The DOT Language" and "HTML-Like
 -- Labels").
-use Rattle.std.specs.Prelude.{ℕ, zero, suc, ◌+◌, ◌-◌, ◌*◌, Bool, ◌==◌, ◌||◌, false, List, [], ◌∷◌, ◌++◌, length}
+use Rattle.std.specs.Prelude.{ℕ, zero, suc, ◌+◌, ◌-◌, ◌*◌, Bool, ◌==◌, ◌||◌, List, [], ◌∷◌, ◌++◌, length}
 use Rattle.std.specs.Prelude.{codes, decimal, Option, Some, None, if◌then◌else◌, slice_get}
 use Rattle.std.specs.List.{flat_map, list_any, enumerate_from}
+use Rattle.cbpf_code.specs.ControlFlow.{jump_targets}
 use Rattle.cbpf_code.specs.Listing.{line_text}
 use Rattle.cbpf_code.specs.Opcode.{op_of}
 use Rattle.cbpf_code.specs.Text.{concat}
@@ -27,18 +28,17 @@ use Rattle.cbpf_why.specs.Runs.{executed, taken}
 
 -- ---- basic blocks
 
--- a block begins at `to` by the instruction at `at`, of this operation: a jump begins one where it leads, and a jump or
--- a return begins one after itself
-abbrev pub opens_by : ℕ → ℕ → Insn → Option Op → Bool
-opens_by to at insn (Some Ja) = (at + 1 == to) || (at + 1 + insn.k == to)
-opens_by to at insn (Some (Jump cond src)) = (at + 1 == to) || ((at + 1 + insn.jt == to) || (at + 1 + insn.jf == to))
-opens_by to at insn (Some RetK) = at + 1 == to
-opens_by to at insn (Some RetA) = at + 1 == to
-opens_by to at insn _ = false
+-- where blocks begin by the instruction at i: after a jump or a return, and where a jump leads
+abbrev pub opened_by : Option Op → Insn → ℕ → List ℕ
+opened_by (Some Ja) insn i = (i + 1) ∷ jump_targets Ja insn i
+opened_by (Some (Jump cond src)) insn i = (i + 1) ∷ jump_targets (Jump cond src) insn i
+opened_by (Some RetK) insn i = (i + 1) ∷ []
+opened_by (Some RetA) insn i = (i + 1) ∷ []
+opened_by _ insn i = []
 
 -- whether an instruction, given with its index, opens a block at `to`
 abbrev pub opens : ℕ → ℕ × Insn → Bool
-opens to e = opens_by to e.0 e.1 (op_of e.1.code)
+opens to e = list_any (λ i. i == to) (opened_by (op_of e.1.code) e.1 e.0)
 
 -- a block begins at the first instruction, and where an instruction opens one
 abbrev pub begins_block : List Insn → ℕ → Bool
