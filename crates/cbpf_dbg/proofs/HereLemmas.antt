@@ -28,7 +28,7 @@ use Rattle.cbpf_dbg.specs.Cursor.{Stands, entry_here}
 use Rattle.cbpf_dbg.specs.Joined.{Entry, entries_from, packet_entries, joined_from, joined, entries_after, stops_after, is_hit, stop_at}
 use Rattle.cbpf_dbg.specs.View.{View, first_place}
 use Rattle.cbpf_dbg.specs.Commands.{Answer, reply_of, view_after, run, run_in, run_to, run_out, within_limit, stopped}
-use Rattle.cbpf_dbg.specs.Commands.{finished, limited, step, step_in, step_to, entry_in, back_place, back_at, steps_of, last_place, run_to_end}
+use Rattle.cbpf_dbg.specs.Commands.{finished, limited, step, step_in, step_to, entry_in, back_place, back_at, steps_of, run_to_end}
 use Rattle.cbpf_dbg.specs.Here.{stop_of, entry_of, stop_here, CanReturn, RunStopsHere, StepStopsHere}
 use Rattle.cbpf_dbg.proofs.JoinedLemmas.{entry}
 use Rattle.cbpf_dbg.proofs.ResumeLemmas.{taken}
@@ -264,7 +264,7 @@ module _ (machine : Machine) (c : Savefile) (old new : View) (h : HasLoaded mach
   pub going-returns : (g : List Stop) (m n : ℕ) → Going machine c old new f g m n → All (CanReturn old) f
       → All (CanReturn new) g
   going-returns g m n going all = rw going.found
-      (more-return (last_place old.place going.passed) old.origin going.passed _ going.place going.hits all)
+      (more-return _ old.origin going.passed _ going.place going.hits all)
 
   -- all of them
   pub end-returns : (g : List Stop) → new ≡ view_after old (run_to_end old)

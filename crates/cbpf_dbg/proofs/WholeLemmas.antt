@@ -1,9 +1,10 @@
 -- Runs without a limit, one after another.
 use Rattle.std.proofs.Common.{◌≡◌, ℕ, ◌+◌, ◌^◌, ◌<◌, ◌≤◌, List, [], ◌∷◌, ◌++◌, length, arith, sym, ap, ◌∙◌, refl, true, false}
-use Rattle.std.specs.Prelude.{Option, Some, None, Result, Ok, Err}
+use Rattle.std.specs.Prelude.{Option, Some, None, Result, Ok, Err, map}
 use Rattle.std.proofs.lemmas.Bool.Decides.{nat_tests}
 use Rattle.cbpf_code.specs.declared.insn.Insn.{Insn}
 use Rattle.cbpf_machine.specs.Machine.{Machine, machine_of}
+use Rattle.cbpf_machine.specs.Trace.{last_or}
 use Rattle.cbpf_code.specs.Sound.{IsSound}
 use Rattle.pcap_classic.specs.Records.{Record}
 use Rattle.pcap_classic.specs.Savefile.{Savefile}
@@ -16,7 +17,7 @@ use Rattle.cbpf_reply.specs.Places.{is_before}
 use Rattle.cbpf_dbg.specs.Joined.{joined, entries_after, stops_of, stops_in, stops_after}
 use Rattle.cbpf_dbg.specs.Joined.{place_before, turns_between, turns_to_end, counts}
 use Rattle.cbpf_dbg.specs.View.{View, first_place}
-use Rattle.cbpf_dbg.specs.Commands.{reply_of, view_after, run, run_to_end, stops, all_stops, Found, last_place}
+use Rattle.cbpf_dbg.specs.Commands.{reply_of, view_after, run, run_to_end, stops, all_stops, Found}
 use Rattle.cbpf_dbg.specs.Commands.{turns_forward, turns_left, Continues, stopped, finished}
 use Rattle.cbpf_dbg.proofs.TurnCountLemmas.{turns-fewer, few_after}
 use Rattle.cbpf_dbg.proofs.RunLemmas.{rest-head}
@@ -111,16 +112,17 @@ pub record Going (machine : Machine) (c : Savefile) (old new : View) (old_found 
   pub old_holds : HasLoaded machine c old
   pub new_holds : HasLoaded machine c new
   pub passed : List Stop
-  pub place : new ≡ record old { place = last_place old.place passed }
+  pub place : new ≡ record old { place = last_or old.place (map (λ stop. stop.place) passed) }
   pub found : new_found ≡ old_found ++ passed
   pub hits : stops_after machine c.records old.breakpoints old.place
       ≡ passed ++ stops_after machine c.records new.breakpoints new.place
   pub spent : after + turns_to_end machine c.records new.place ≡ before + turns_to_end machine c.records old.place
   pub spare : before ≤ 2 ^ 126
 
-last_place-append : (place : Place) (hits : List Stop) (stop : Stop) → last_place place (hits ++ stop ∷ []) ≡ stop.place
-last_place-append place [] stop = refl
-last_place-append place (h ∷ hits) stop = last_place-append h.place hits stop
+last-append : (place : Place) (hits : List Stop) (stop : Stop)
+    → last_or place (map (λ s. s.place) (hits ++ stop ∷ [])) ≡ stop.place
+last-append place [] stop = refl
+last-append place (h ∷ hits) stop = last-append h.place hits stop
 
 module _ (machine : Machine) (c : Savefile) (old v : View) (f g : List Stop) (m n : ℕ)
     (h : Going machine c old v f g m n) where
@@ -160,7 +162,7 @@ module _ (machine : Machine) (c : Savefile) (old v : View) (f g : List Stop) (m 
         old_holds = h.old_holds;
         new_holds = holds;
         passed = h.passed ++ stop ∷ [];
-        place = rw (last_place-append old.place h.passed stop)
+        place = rw (last-append old.place h.passed stop)
             (there ∙ ap (λ (x : View). record x { place = stop.place }) h.place);
         found = pushed ∙ ap (λ xs. xs ++ stop ∷ []) h.found ∙ append_assoc f h.passed (stop ∷ []);
         hits = rw left ((rw first.1 at h.hits) ∙ sym (append_assoc h.passed (stop ∷ []) first.0));

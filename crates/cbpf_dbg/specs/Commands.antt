@@ -3,7 +3,7 @@
 -- (commands that `bpf_dbg` has, of Linux Documentation/networking/filter, "BPF engine and instruction set", do what they
 -- do there, but for the differences that docs/KERNEL_TOOLS.md lists; the rest is this project's own).
 use Rattle.std.specs.Prelude.{◌≡◌, ℕ, ◌+◌, ◌-◌, ◌*◌, zero, suc, nat_lt, nat_le, nat_eq, is_some, ◌==◌, ◌&&◌, Bool, true}
-use Rattle.std.specs.Prelude.{List, [], ◌∷◌, ◌++◌, length, slice_get, Option, Some, None, Result, Ok, Err}
+use Rattle.std.specs.Prelude.{List, [], ◌∷◌, ◌++◌, length, map, slice_get, Option, Some, None, Result, Ok, Err}
 use Rattle.std.specs.Prelude.{if◌then◌else◌, ℤ, pos, negsuc, ◌⊎◌, IsOk}
 use Rattle.cbpf_code.specs.declared.insn.Insn.{Insn}
 use Rattle.cbpf_code.specs.declared.extension.Ext.{Ext}
@@ -16,7 +16,7 @@ use Rattle.cbpf_machine.specs.declared.pause.When.TheVariants.{Always}
 use Rattle.cbpf_machine.specs.Values.{with_value, takes_value}
 use Rattle.cbpf_machine.specs.Machine.{Machine, machine_of}
 use Rattle.cbpf_machine.specs.Turn.{turn}
-use Rattle.cbpf_machine.specs.Trace.{trace, entry_at}
+use Rattle.cbpf_machine.specs.Trace.{trace, entry_at, last_or}
 use Rattle.pcap_classic.specs.Records.{Record}
 use Rattle.pcap_classic.specs.Savefile.{Savefile}
 use Rattle.cbpf_reply.specs.declared.reply.Place.{Place}
@@ -217,11 +217,6 @@ run_to_end m = where_loaded m (λ machine capture.
 abbrev pub all_stops : View → Result (List Stop) SessionFault
 all_stops m = where_loaded m (λ machine capture. Ok (stops_in machine capture m.breakpoints))
 
--- the place of the last of some stops; with none, the place that is given
-abbrev pub last_place : Place → List Stop → Place
-last_place place [] = place
-last_place place (stop ∷ rest) = last_place stop.place rest
-
 -- A whole run puts its stops after those of its caller's list, which is `old_found` before it and `new_found` after it. Where
 -- memory for that list runs out, it has found some of the stops that were ahead, the first ones in order, or none. The
 -- others are still ahead, and only the place differs: it is that of the last one that was found, if one was.
@@ -231,7 +226,7 @@ pub record Found (old new : View) (old_found new_found : List Stop) : Type 0 whe
   pub before_are : stops old ≡ Ok (first ++ after)
   pub after_are : stops new ≡ Ok after
   pub found_are : new_found ≡ old_found ++ first
-  pub moves : new ≡ record old { place = last_place old.place first }
+  pub moves : new ≡ record old { place = last_or old.place (map (λ stop. stop.place) first) }
 
 -- ---- what is loaded and set
 

@@ -1,6 +1,6 @@
 -- Texts of the entries of a packet's trace, and where its last entry and its last conditional jump stand.
 use Rattle.std.proofs.Common.{◌≡◌, ℕ, zero, suc, ◌+◌, ◌<◌, List, [], ◌∷◌, ◌++◌, length, take, Option, Some, None, arith, refl, sym, ◌∙◌, ap, take_all, append-nil}
-use Rattle.std.specs.Prelude.{Bool, true, false, filter, if◌then◌else◌, slice_get, option_map, IfSome}
+use Rattle.std.specs.Prelude.{Bool, true, false, map, filter, if◌then◌else◌, slice_get, option_map, IfSome}
 use Rattle.std.specs.List.{flat_map}
 use Rattle.std.proofs.lemmas.Grind.{flat_map-append}
 use Rattle.cbpf_code.specs.Sound.{IsSound}
@@ -46,6 +46,12 @@ last_within : (n : ℕ) (xs : List Registers) (d : Registers) → ((i : ℕ) (s 
 last_within n [] d h l = l
 last_within n (x ∷ xs) d h l = last_within n xs x (λ i s e. h (suc i) s e) (h 0 x refl)
 
+found_within : (n : ℕ) (xs : List Registers) (o : Option Registers)
+    → ((i : ℕ) (s : Registers) → slice_get xs i ≡ Some s → s.pc < n) → ((s : Registers) → o ≡ Some s → s.pc < n)
+    → (s : Registers) → last_or o (map Some xs) ≡ Some s → s.pc < n
+found_within n [] o h l = l
+found_within n (x ∷ xs) o h l = found_within n xs (Some x) (λ i s e. h (suc i) s e) (h 0)
+
 either_within : (n : ℕ) (b : Bool) (x : Registers) (ys : List Registers) → x.pc < n
     → ((j : ℕ) (s : Registers) → slice_get ys j ≡ Some s → s.pc < n)
     → (j : ℕ) (s : Registers) → slice_get (if b then x ∷ ys else ys) j ≡ Some s → s.pc < n
@@ -82,14 +88,16 @@ module _ (t : OnPacket) (sound : IsSound t.machine.list) where
   pub last_inside : (last_or zero_state (trace_in t)).pc < length t.machine.list
   last_inside = last_within _ (trace_in t) zero_state (trace-is_run t sound).inside (sound_some t.machine.list sound)
 
+  test_at_inside : (s : Registers) → last_test t.machine.list (trace_in t) ≡ Some s → s.pc < length t.machine.list
+  test_at_inside = found_within _ (filter (is_test_at t.machine.list) (trace_in t)) None
+      (filter_within _ (is_test_at t.machine.list) (trace_in t) (trace-is_run t sound).inside) (λ s e. absurd cc)
+
   pub test_inside : IfSome (option_map (test_of t.machine.list) (last_test t.machine.list (trace_in t)))
       (λ o. o.0.pc < length t.machine.list)
-  test_inside = test_within t.machine.list _ (last_test t.machine.list (trace_in t))
-      (filter_within _ (is_test_at t.machine.list) (trace_in t) (trace-is_run t sound).inside _)
+  test_inside = test_within t.machine.list _ (last_test t.machine.list (trace_in t)) test_at_inside
 
   pub choice_inside : IfSome (last_choice t.machine.list (trace_in t)) (λ c. c.pc < length t.machine.list)
-  choice_inside = choice_within t.machine.list _ (last_test t.machine.list (trace_in t))
-      (filter_within _ (is_test_at t.machine.list) (trace_in t) (trace-is_run t sound).inside _)
+  choice_inside = choice_within t.machine.list _ (last_test t.machine.list (trace_in t)) test_at_inside
 
 -- the last conditional jump with an entry more
 tests_more : (list : List Insn) (xs : List Registers) (s : Registers) (b : Bool) → is_test_at list s ≡ b

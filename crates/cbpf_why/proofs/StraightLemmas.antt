@@ -276,8 +276,7 @@ last_splits p (x ∷ xs) s h =
         splits_here p x xs s same e f
     by_head true e (y ∷ ys) f later =
         let more : last (x ∷ y ∷ ys) ≡ Some s = rw (e, f) at h in
-        let one : length (x ∷ y ∷ ys) - 1 ≡ suc (length (y ∷ ys) - 1) = omega arith in
-        later (rw f (rw one at more))
+        later (rw f more)
 
 -- ---- two packets of a checked program
 
