@@ -6,9 +6,9 @@ usage: why.py PROGRAM [N]
 N random programs (300 where no number is given), of which some are wrong, run over random captures with random values,
 and those of tests/verdicts.txt over examples/mixed.pcap. The debugger's replies to `run`, and to `stops` with a
 breakpoint at each instruction, say what each report of `why` is: how packets ended, a line for each, the ways of some,
-and the counts in the listing and in the graph. Whole outputs are compared. For a capture that is cut at each byte, and
-for one whose file header has each byte changed, `load pcap` and `run` say it. The other tests, of pipes, of files that
-grow and of signals, are the functions of TESTS. The last line is `N programs and M tests, F failed`.
+and the counts in the listing and in the graph. Whole outputs are compared. For a capture that is cut at each byte, for
+one whose file header has each byte changed, and for 300 link types, `load pcap` and `run` say it. The other tests, of
+pipes, sizes, growing files and signals, are in TESTS. The last line is `N programs and M tests, F failed`.
 """
 
 import contextlib
@@ -245,8 +245,8 @@ def of_chosen(lines_of, report, found, ranges):
 
 
 # Random captures and programs.
-def header(order="<", magic=MICROSECONDS):
-    return struct.pack(f"{order}IHHIIII", magic, 2, 4, 0, 0, 65535, 1)
+def header(order="<", magic=MICROSECONDS, link=1):
+    return struct.pack(f"{order}IHHIIII", magic, 2, 4, 0, 0, 65535, link)
 
 
 def record(packet, wire=None, order="<"):
@@ -406,7 +406,7 @@ def tasks(count):
         yield with_extensions(draw, random_program(draw)), drawn_capture(draw), drawn_values(draw), seed
 
 
-# Pipes, files that grow, signals.
+# Pipes, sizes, files that grow, signals.
 @contextlib.contextmanager
 def started(words, folder):
     """A process with pipes, which is ended where it takes too long."""
@@ -461,6 +461,25 @@ def each_byte_of_the_header(program, folder):
     yield from agrees_with_loads(program, folder, {**data, **changed})
 
 
+def each_link_type(program, folder):
+    """A capture of each link type from 0 to 299 is taken."""
+    yield from agrees_with_loads(program, folder, {f"link type {link}": header(link=link) for link in range(300)})
+
+
+def filters_of_each_size(program, folder):
+    """Programs of 1 to 299 instructions are taken, also with a breakpoint at their end, and a filter of a megabyte."""
+    (folder / "capture").write_bytes(header() + record(b"a"))
+    texts = {size: words_of([(7, 0, 0, 0)] * (size - 1) + [(6, 0, 0, 1)]) for size in range(1, 300)}
+    script = [line for size, text in texts.items() for line in (f"load bpf {text}", f"breakpoint {size - 1}")]
+    wanted = [line for n in texts for line in (f"bpf: {n} instructions", f"breakpoint at: l{n - 1}:\tret #0x1")]
+    yield from fault_of("breakpoints", replies(program, folder, script), wanted)
+    for size, text in [*texts.items(), (1, "; a comment\n" * 100_000 + "ret #1")]:
+        (folder / "filter").write_text(text)
+        wanted = [f"pass 1 at l{size - 1}:\tret #0x1, first packet 1", "bpf passes:1 fails:0"]
+        got = ran([program, "why", "filter", "capture"], folder)
+        yield from fault_of(f"{size} instructions in {len(text)} bytes", got, (wanted, [], 0))
+
+
 def send_bytes(own, data):
     with own:
         for at in range(len(data)):
@@ -488,12 +507,12 @@ def waits(process):
 
 def line_by_line(program, folder):
     """Each packet's line comes before the next packet, and none before its packet is whole."""
-    (folder / "filter").write_text("ldb [0]\nret a")
+    (folder / "filter").write_text("ldh [0]\nret a")
     with started([program, "why", "-p", "filter"], folder) as process:
         process.stdin.write(header())
-        for number in range(1, 51):
-            data = record(bytes([number, 0, 0]))
-            if number % 10 == 0:
+        for number in range(1, 3001):
+            data = record(number.to_bytes(2, "big"))
+            if number % 500 == 0:
                 process.stdin.write(data[:-1])
                 yield from fault_of(f"before packet {number} is whole", waits(process), True)
                 data = data[-1:]
@@ -505,19 +524,39 @@ def line_by_line(program, folder):
         yield from fault_of("a live pipe's end", got, (b"", b"", 0))
 
 
+def lines_of_passes(numbers):
+    """The lines of packets that a single `ret #1` passes."""
+    return b"".join(b"%d\tpass\tl0\t1\t-\t-\n" % number for number in numbers)
+
+
 def the_last_packet_ends_it(program, folder):
     """After the last packet that is asked for nothing is read: it ends while the pipe is open."""
     (folder / "filter").write_text("ret #1")
-    with started([program, "why", "-p", "filter", "-", "2", "1"], folder) as process:
-        process.stdin.write(header() + record(b"a") + record(b"b"))
+    with started([program, "why", "-p", "filter", "-", "2-1000", "1"], folder) as process:
+        process.stdin.write(header() + record(b"a") * 1000)
         got = process.stdout.read(), process.wait()
-        yield from fault_of("the last packet", got, (b"1\tpass\tl0\t1\t-\t-\n2\tpass\tl0\t1\t-\t-\n", 0))
+        yield from fault_of("the last packet", got, (lines_of_passes(range(1, 1001)), 0))
     with started([program, "why", "filter", "-", "1-2"], folder) as process:
         process.stdin.write(header() + record(b"a"))
         lines = [b"packet 1\n", b"l0:\tret #0x1\tA 0 (0x0) X 0 (0x0)\n", b"pass at l0:\tret #0x1\n"]
         yield from fault_of("a way on a live pipe", [process.stdout.readline() for _ in range(3)], lines)
         process.stdin.close()
         yield from fault_of("no packet", (process.stderr.read(), process.wait()), (b"cbpf: no packet 2\n", 1))
+
+
+def a_thousand_numbers(program, folder):
+    """Each of 1,020 numbers has its line. Those of the 20 that name no packet go out by one write; the status is 1."""
+    (folder / "filter").write_text("ret #1")
+    (folder / "capture").write_bytes(header() + record(b"a") * 2000)
+    there, lacking = range(1, 1001), range(2001, 2021)
+    own, other = socket.socketpair(socket.AF_UNIX, socket.SOCK_SEQPACKET)
+    with own:
+        with other:
+            words = [program, "why", "-p", "filter", "capture", *map(str, [*there, *lacking])]
+            done = subprocess.run(words, stdout=subprocess.PIPE, stderr=other, cwd=folder, timeout=SECONDS)
+        got = done.stdout, own.recv(1 << 16), done.returncode
+    said = b"".join(b"cbpf: capture: no packet %d\n" % number for number in lacking)
+    yield from fault_of("1,020 numbers", got, (lines_of_passes(there), said, 1))
 
 
 def nothing_is_read_after_the_end(program, folder):
@@ -595,18 +634,22 @@ def of_process(process, file, name):
 
 
 def a_long_pipe(program, folder):
-    """Packets of 64 bytes, in little memory, and with few reads."""
+    """Packets of 64 bytes, in little memory, and with few reads. Long ones after them make it longer than 4 GB."""
     (folder / "filter").write_text(ARP)
     piece = (record(bytes(12) + b"\x08\x06" + bytes(50)) + record(bytes(64))) * 6_250
-    packets = 6_250 * MEGABYTES
+    long = record(bytes(62_484)) * 16
+    passes = 6_250 * MEGABYTES
+    fails = passes + 16 * (4_300 - MEGABYTES)
     with started([program, "why", "filter"], folder) as process:
         process.stdin.write(header())
         for _ in range(MEGABYTES):
             write_all(process.stdin, piece)
         used, reads = of_process(process, "status", "VmHWM") * 1024, of_process(process, "io", "syscr")
+        for _ in range(4_300 - MEGABYTES):
+            write_all(process.stdin, long)
         process.stdin.close()
         said, status = process.stdout.read().decode().splitlines(), process.wait()
-    yield from fault_of("a long pipe", (said[-1:], status), ([f"bpf passes:{packets} fails:{packets}"], 0))
+    yield from fault_of("a long pipe", (said[-1:], status), ([f"bpf passes:{passes} fails:{fails}"], 0))
     yield from fault_of(f"memory of a long pipe: {used} bytes", used <= FEW_BYTES, True)
     yield from fault_of(f"reads of a long pipe: {reads}", reads < 100_000, True)
 
@@ -634,9 +677,12 @@ TESTS = [
     a_long_pipe,
     cut_at_each_byte,
     each_byte_of_the_header,
+    each_link_type,
+    filters_of_each_size,
     by_one_byte_a_read,
     line_by_line,
     the_last_packet_ends_it,
+    a_thousand_numbers,
     nothing_is_read_after_the_end,
     a_closed_output,
     an_interrupt,
