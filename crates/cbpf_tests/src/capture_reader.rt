@@ -219,34 +219,39 @@ fn a_record_of_twenty_million_bytes(rt: HostRuntime) {
     assert!(rt; is_read_as_a_whole(&rt, &bytes, 65_536));
 }
 
-/// The bytes asked for while a capture of one record of 4 GB is read, of which so many bytes come.
-fn asked_for(rt: &impl Test, present: usize) -> u64 {
+/// The bytes asked for while a capture of one record of this captured length is read, of which so many bytes come.
+fn asked_for(rt: &impl Test, captured: u32, present: usize) -> u64 {
     let mut bytes = of_lengths(rt, &[]);
-    append_long(rt, &mut bytes, u32::MAX, present);
+    append_long(rt, &mut bytes, captured, present);
     let counting = FaultyAllocator::new(rt.alloc(), 0);
     match CaptureReader::new(&counting, FaultyReader::new(&bytes, 10_000, 0)) {
-        Ok(mut reader) => assert!(rt; ends(&mut reader, Ending::CutData(24))),
+        Ok(mut reader) => assert!(rt; reads_all(&mut reader, &capture(rt, &bytes))),
         Err(_) => assert!(rt; false),
     }
     assert!(rt; counting.held() == 0);
     counting.asked()
 }
 
-/// How many bytes of the record come, and how many are asked for: of each growth those of the whole new room.
-static ASKED: [(usize, u64); 6] = [
-    (0, 131_072),
-    (131_055, 131_072),
-    (131_056, 131_072 + 262_144),
-    (262_127, 131_072 + 262_144),
-    (262_128, 131_072 + 262_144 + 524_288),
-    (300_000, 131_072 + 262_144 + 524_288),
+/// How many bytes a record claims, how many of them come, and how many are asked for: of each growth those of the whole
+/// new room.
+static ASKED: [(u32, usize, u64); 9] = [
+    (u32::MAX, 0, 131_072),
+    (u32::MAX, 131_055, 131_072),
+    (u32::MAX, 131_056, 131_072 + 262_144),
+    (u32::MAX, 262_127, 131_072 + 262_144),
+    (u32::MAX, 262_128, 131_072 + 262_144 + 524_288),
+    (u32::MAX, 300_000, 131_072 + 262_144 + 524_288),
+    (1_000_000_000, 300_000, 131_072 + 262_144 + 524_288),
+    (131_057, 131_057, 131_072 + 131_073),
+    (10_000_000, 10_000_000, 127 * 131_072 + 10_000_016),
 ];
 
-/// A record that claims 4294967295 bytes asks for room only as its bytes come.
+/// A record asks for room only as its bytes come: for twice those that came, and for no more than the record.
 #[test]
-fn a_record_that_claims_4_gb(rt: HostRuntime) {
-    for (present, wanted) in &ASKED {
-        assert_at(&rt, *present, asked_for(&rt, *present) == *wanted);
+fn room_for_long_records(rt: HostRuntime) {
+    for (captured, present, wanted) in &ASKED {
+        let is_wanted = asked_for(&rt, *captured, *present) == *wanted;
+        assert_named(&rt, is_wanted, "the room", (*captured, *present));
     }
 }
 
