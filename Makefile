@@ -6,7 +6,7 @@ DESTDIR ?=
 # Where `dist` puts its file.
 DIST ?= $(CURDIR)/out
 # As words of the environment they may hold any byte.
-export PREFIX DESTDIR
+export PREFIX DESTDIR DIST
 PROGRAM = crates/cbpf/out/cbpf
 
 # The one place of the version, and that of its date.
@@ -137,16 +137,17 @@ unreleased: unchanged
 		echo 'CHANGES.md has items below `## Next`, so this is not $(VERSION), which was released before them.' >&2; exit 1; }
 
 dist: unreleased ## Makes out/cbpf-VERSION-x86_64-linux.tar.gz: what `install` puts, the program stripped, with a script that installs it.
-	@rm -rf "$(DIST)/$(PACKAGE)" "$(DIST)/$(PACKAGE).tar.gz"
-	@$(MAKE) -s --no-print-directory install DESTDIR="$(DIST)/$(PACKAGE)" PREFIX=/ CBPF_PLACE=. > /dev/null
-	@strip -R .comment "$(DIST)/$(PACKAGE)/bin/cbpf" || { rm -rf "$(DIST)/$(PACKAGE)"; exit 1; }
-	@install -m 755 tools/package/install "$(DIST)/$(PACKAGE)/install"
-	@install -m 644 tools/package/README "$(DIST)/$(PACKAGE)/README"
-	@cd "$(DIST)/$(PACKAGE)" && find * -type f | LC_ALL=C sort | xargs sha256sum > ../SHA256SUMS && mv ../SHA256SUMS .
-	@cd "$(DIST)" && chmod -R u=rwX,go=rX "$(PACKAGE)" && tar --sort=name --format=ustar --owner=0 --group=0 \
+	@rm -rf "$$DIST/$(PACKAGE)" "$$DIST/$(PACKAGE).tar.gz"
+	@PACKED="$$DIST/$(PACKAGE)" \
+		$(MAKE) -s --no-print-directory install DESTDIR='$$(value PACKED)' PREFIX=/ CBPF_PLACE=. > /dev/null
+	@strip -R .comment "$$DIST/$(PACKAGE)/bin/cbpf" || { rm -rf "$$DIST/$(PACKAGE)"; exit 1; }
+	@install -m 755 tools/package/install "$$DIST/$(PACKAGE)/install"
+	@install -m 644 tools/package/README "$$DIST/$(PACKAGE)/README"
+	@cd "$$DIST/$(PACKAGE)" && find * -type f | LC_ALL=C sort | xargs sha256sum > ../SHA256SUMS && mv ../SHA256SUMS .
+	@cd "$$DIST" && chmod -R u=rwX,go=rX "$(PACKAGE)" && tar --sort=name --format=ustar --owner=0 --group=0 \
 		--numeric-owner --mtime='$(DATE) 00:00 UTC' -c "$(PACKAGE)" | gzip -9n > "$(PACKAGE).tar.gz"
-	@rm -rf "$(DIST)/$(PACKAGE)"
-	@echo '$(PACKAGE).tar.gz is in $(DIST)'
+	@rm -rf "$$DIST/$(PACKAGE)"
+	@printf '%s\n' "$(PACKAGE).tar.gz is in $$DIST"
 
 clean: ## Removes what was built and what the checks kept.
 	rm -rf crates/*/out out
