@@ -27,7 +27,7 @@ from pathlib import Path
 TOP = Path(__file__).resolve().parent.parent
 SHELL = TOP / "tools/cbpf-shell"
 EXAMPLES = TOP / "examples"
-NEEDED = "sh awk cat grep head id mkfifo mktemp readlink rm rmdir sleep stty tee tr"
+NEEDED = "sh awk cat dd grep head id mkdir mkfifo mktemp readlink rm sleep stty tee tr wc"
 SECONDS = 30
 PROMPT = "cbpf> "
 ESCAPES = re.compile(r"\x1b\[[0-9;?]*[A-Za-z]|\x1b[=>]|[\x00\x07\x0f]")
@@ -56,7 +56,7 @@ class Missing(Exception):
 class Terminal:
     """A command at a pseudo-terminal of its own."""
 
-    def __init__(self, words, folder, environment, rlwrap):
+    def __init__(self, words, folder, environment, rlwrap, columns):
         self.rlwrap = rlwrap
         self.child, self.end = pty.fork()
         if self.child == 0:
@@ -64,7 +64,7 @@ class Terminal:
             signal.signal(signal.SIGINT, signal.SIG_DFL)
             signal.signal(signal.SIGQUIT, signal.SIG_DFL)
             os.chdir(folder)
-            fcntl.ioctl(0, termios.TIOCSWINSZ, struct.pack("HHHH", 40, 120, 0, 0))
+            fcntl.ioctl(0, termios.TIOCSWINSZ, struct.pack("HHHH", 40, columns, 0, 0))
             os.execve(words[0], words, environment)
         self.pending = ""
 
@@ -127,8 +127,8 @@ class Place:
             "SENT": str(self.sent),
         }
 
-    def terminal(self, *words, **more):
-        return Terminal([str(SHELL), *words], self.folder, {**self.environment, **more}, self.rlwrap)
+    def terminal(self, *words, columns=120, **more):
+        return Terminal([str(SHELL), *words], self.folder, {**self.environment, **more}, self.rlwrap, columns)
 
     def piped(self, text, *words, **more):
         environment = {**self.environment, **more}
@@ -250,9 +250,12 @@ def check_interrupts(place):
         one.type("\x03")
         awaited(one, "Ctrl-C", *interrupt)
         say(one, "mark", "1 0")
+    if not place.rlwrap:
+        say(one, "ma\0rk", "error: Q1 unknown command")
     one.type("\x04")
     check("the status of Ctrl-D", one.status()[1], 0)
-    check("what is sent", place.commands(), ["load bpf " + ARP, "load pcap two-packets.pcap", "mark", "mark"])
+    sent = ["mark", "mark", *([] if place.rlwrap else ["ma\1rk"])]
+    check("what is sent", place.commands(), ["load bpf " + ARP, "load pcap two-packets.pcap", *sent])
     slow = place.terminal(CBPF=str(place.folder / "slow"))
     awaited(slow, "the prompt", *([PROMPT] if place.rlwrap else []))
     slow.type("run\n")
@@ -305,14 +308,22 @@ def check_filters(place):
         awaited(one, name, "bpf: 4 instructions", "pcap: 35 packets")
         one.type("q\n")
         one.status()
-    (place.folder / "jump").write_text("1,21 0 9 1")
+    for name, text, said in (
+        ("jump", "1,21 0 9 1", "error: C7 at 0: jump outside"),
+        ("words with a NUL", "1,6 0 0 \0007", "error: N3 at byte 8: unexpected byte"),
+    ):
+        (place.folder / name).write_text(text)
+        one = place.terminal("mixed.pcap", name)
+        awaited(one, name, said, "pcap: 35 packets")
+        one.type("q\n")
+        one.status()
     (place.folder / "wrong").write_text("ldh [12\n")
-    one = place.terminal("mixed.pcap", "jump")
-    awaited(one, "a refused program", "error: C7 at 0: jump outside", "pcap: 35 packets")
-    one.type("q\n")
-    one.status()
+    (place.folder / "source with a NUL").write_text("ret\0 #7\n")
+    (place.folder / "long").write_text("\n" * 10_000_001)
     for wrong, said in {
         ("mixed.pcap", "wrong"): "cbpf: line 1: A5 text ends inside an instruction",
+        ("mixed.pcap", "source with a NUL"): "cbpf: line 1: A1 unknown byte",
+        ("mixed.pcap", "long"): "cbpf-shell: long has more than 10000000 bytes",
         ("mixed.pcap", "absent"): "cbpf-shell: cannot read absent: No such file or directory",
         ("mixed.pcap", "."): "cbpf-shell: cannot read .: Is a directory",
         ("a\nb",): "cbpf-shell: a capture's name can't have a newline here",
@@ -352,6 +363,53 @@ def check_without_terminal(place):
     check("the status from a pipe", (done.stderr, done.returncode), (b"", 0))
     done = place.piped(b"mark\n", CBPF="/bin/false")
     check("a program that fails", (done.stdout, done.returncode), (b"", 1))
+    done = place.piped(b"qu\0it\nmark\n")
+    check("a NUL in a line", done.stdout, b"error: Q1 unknown command\nerror: S1 no program\n")
+    piped = ["sh", "-c", f"'{SHELL}' mixed.pcap arp.asm | head -n 1"]
+    ends = {"input": b"dump\n" * 99, "capture_output": True, "timeout": SECONDS}
+    done = subprocess.run(piped, cwd=place.folder, env=place.environment, **ends)
+    check("into a pipe that is closed", done.stdout, b"bpf: 4 instructions\n")
+    # The folder of the session once came from the environment.
+    (place.folder / "inputrc").touch()
+    place.piped(b"", CBPF_SHELL_FOLDER=str(place.folder))
+    check("the files of another folder", (place.folder / "inputrc").exists(), True)
+
+
+def check_signals(place):
+    """A signal during the start leaves no process. What it leaves in TMPDIR is looked at after each check."""
+    shells = [words for words in (["dash"], ["bash", "--posix"], ["busybox", "sh"]) if shutil.which(words[0])]
+    os.mkfifo(place.folder / "fifo")
+    for turn in range(33):
+        # At last the shell alone gets the signal, while it reads a filter that doesn't come.
+        filter_, stop = ("arp.asm", os.killpg) if turn < 30 else ("fifo", os.kill)
+        shell, *options = shells[turn % len(shells)]
+        words = [shutil.which(shell), *options, SHELL, "mixed.pcap", filter_]
+        ends = {"stdin": subprocess.PIPE, "stdout": subprocess.DEVNULL, "stderr": subprocess.DEVNULL}
+        one = subprocess.Popen(words, cwd=place.folder, env=place.environment, start_new_session=True, **ends)
+        time.sleep(0.02 + turn * 0.002)
+        stop(one.pid, signal.SIGTERM)
+        # All its processes have its standard input, which becomes a pipe that nobody reads.
+        unread = select.poll()
+        unread.register(one.stdin, 0)
+        gone = one.wait(SECONDS) in (1, 143) and unread.poll(1000 * SECONDS) != []
+        check(f"{words} is ended in turn {turn}", gone, True)
+        if not gone:
+            os.killpg(one.pid, signal.SIGKILL)
+
+
+def check_without_rlwrap(place):
+    """Where rlwrap would end at once, the session goes on without it, and says so once."""
+    for columns, more, why in (
+        (0, {}, "the terminal has no width"),
+        (120, {"HOME": ""}, "rlwrap can't write /.cbpf-shell_history"),
+        (120, {"HOME": "/dev/null"}, "rlwrap can't write /dev/null/.cbpf-shell_history"),
+        (120, {"RLWRAP_HOME": "/dev/null"}, "rlwrap can't write /dev/null/cbpf-shell_history"),
+    ):
+        one = place.terminal("mixed.pcap", "arp.asm", columns=columns, **more)
+        said = NO_RLWRAP.replace("rlwrap is not installed", why)
+        check(f"the start, as {why}", one.reply(), f"{said}\nbpf: 4 instructions\npcap: 35 packets\n")
+        one.type("q\n")
+        check(f"the status, as {why}", one.status()[1], 0)
 
 
 def check_history(place):
@@ -383,8 +441,9 @@ def main():
         if rlwrap and not shutil.which("rlwrap"):
             print("not run under rlwrap: no rlwrap")
             continue
-        plain = [check_filters, check_without_terminal, check_help, check_long_runs]
-        for one in [check_session, check_interrupts, *([check_history] if rlwrap else plain)]:
+        plain = [check_filters, check_without_terminal, check_signals, check_help, check_long_runs]
+        under = [check_without_rlwrap, check_history]
+        for one in [check_session, check_interrupts, *(under if rlwrap else plain)]:
             with tempfile.TemporaryDirectory() as folder:
                 before = len(faults)
                 try:
