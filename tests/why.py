@@ -596,6 +596,28 @@ def an_interrupt(program, folder):
     yield from fault_of("SIGINT", got, (b"1\tpass\tl0\t1\t-\t-\n", b"", -signal.SIGINT))
 
 
+def a_read_that_is_interrupted(program, folder):
+    """It is made again. Where a socket has a time limit, a process that was stopped and goes on interrupts its read."""
+    (folder / "filter").write_text("ret #1")
+    own, other = socket.socketpair()
+    other.setsockopt(socket.SOL_SOCKET, socket.SO_RCVTIMEO, struct.pack("ll", SECONDS, 0))
+    words = [program, "why", "-p", "filter"]
+    given = {"stdin": other, "stdout": subprocess.PIPE, "stderr": subprocess.PIPE, "bufsize": 0}
+    with subprocess.Popen(words, cwd=folder, **given) as process:
+        other.close()
+        with own:
+            own.sendall(header() + record(b"a"))
+            line = process.stdout.readline()
+            waits(process)
+            process.send_signal(signal.SIGSTOP)
+            os.waitpid(process.pid, os.WUNTRACED)
+            process.send_signal(signal.SIGCONT)
+            waits(process)
+            own.sendall(record(b"b"))
+        got = line, process.stdout.read(), process.stderr.read(), process.wait()
+    yield from fault_of("a read again", got, (lines_of_passes([1]), lines_of_passes([2]), b"", 0))
+
+
 def a_read_that_fails(program, folder):
     """What is due has gone out, and the totals haven't. A socket whose other end is closed before it has read all gives
     what it was sent, and then an error."""
@@ -686,6 +708,7 @@ TESTS = [
     nothing_is_read_after_the_end,
     a_closed_output,
     an_interrupt,
+    a_read_that_is_interrupted,
     a_read_that_fails,
     a_growing_file,
     a_claim_of_4_gigabytes,

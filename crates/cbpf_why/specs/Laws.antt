@@ -1,7 +1,7 @@
 -- What the verdicts and the totals of a report are, by the outcomes of packets (Linux Documentation/networking/filter: a
 -- packet passes where a run of the filter on it returns a number other than 0); that a text is one filter or none; and
 -- what the packets of a group share.
-use Rattle.std.specs.Prelude.{◌≡◌, ◌≢◌, ◌<◌, ◌*◌, ◌+◌, ℕ, zero, suc, true, List, length}
+use Rattle.std.specs.Prelude.{◌≡◌, ◌≢◌, ◌⊎◌, ◌<◌, ◌*◌, ◌+◌, ℕ, zero, suc, true, List, length}
 use Rattle.cbpf_code.specs.Sound.{IsSound}
 use Rattle.cbpf_code.specs.declared.insn.Insn.{Insn}
 use Rattle.cbpf_machine.specs.declared.outcome.End.{End}
@@ -38,6 +38,11 @@ OneReason = (text : List ℕ) (f g : FilterFault) → f ≢ Memory → g ≢ Mem
 -- no text that has a program is refused for another reason than out of memory
 abbrev pub NeverBoth : Type 0
 NeverBoth = (text : List ℕ) (list : List Insn) (f : FilterFault) → IsFilter text list → IsNoFilter text f → f ≡ Memory
+
+-- each text has a program, or is refused for another reason than out of memory
+abbrev pub EachAnswered : Type 0
+EachAnswered = (text : List ℕ) → ((list : List Insn) × IsFilter text list)
+    ⊎ ((f : FilterFault) × (f ≢ Memory) × IsNoFilter text f)
 
 -- ---- groups, of which there is one for each row and verdict; all of a checked program
 

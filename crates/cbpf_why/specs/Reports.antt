@@ -98,7 +98,7 @@ pub record WroteFront (report : Report) (ranges : List PacketRange) (m : Machine
   pub few : count ≤ length c.records
   pub wrote : Appended old new (packets_text report m (chosen ranges (take count c.records)))
 
--- memory runs out before the first packet, where the next record needs room, or where a graph is made of the counts
+-- memory runs out where no packet was read, where the next record needs room, or for a graph
 abbrev pub RunsOut : Report → Savefile → ℕ → Type 0
 RunsOut report c count = ((count ≡ 0) ⊎ NeedsRoom (drop count c.records) c.ending) ⊎ (report ≡ Graph)
 

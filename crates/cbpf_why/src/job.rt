@@ -201,7 +201,7 @@ fn end_read<R: Read, A: Allocator>(
 /// Of a packet whose number stands in no range nothing is reported. No packet is read after the greatest last number of
 /// the ranges. So the capture's end is read where all packets are looked at, or where a range ends beyond it.
 /// [`PacketRange::beyond`] says which numbers of a range the capture lacks. What is reported packet by packet is flushed
-/// before a read that may wait.
+/// before a read that may wait. The reader is left after the packets that were read, so the caller can read on.
 ///
 /// The totals count the outcomes of the packets, as [`crate::totals_of_outcomes`] says. The debugger's `run` counts the
 /// same, as `same_totals` of cbpf_tool says.

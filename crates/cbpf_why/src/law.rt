@@ -1,7 +1,7 @@
 //! Laws of the definitions, which hold whatever a program does.
 
 ghost use Rattle.cbpf_why.specs.Laws.{VerdictIsOutcome, TotalsCountOutcomes};
-ghost use Rattle.cbpf_why.specs.Laws.{NeverBoth, OneProgram, OneReason};
+ghost use Rattle.cbpf_why.specs.Laws.{EachAnswered, NeverBoth, OneProgram, OneReason};
 ghost use Rattle.cbpf_why.specs.Laws.{EachInOneGroup, GroupsEndAlike, GroupsSumToTotals};
 
 /// The verdict on a packet is the kind of the outcome that a run of the program on the packet has. So the totals of a
@@ -16,6 +16,7 @@ pub fn one_filter()
     ensures program { OneProgram }
     ensures reason { OneReason }
     ensures never_both { NeverBoth }
+    ensures answered { EachAnswered }
 {}
 
 /// Each packet of a checked program is in exactly one group, and the counts of a verdict's groups sum to its total. All

@@ -7,7 +7,7 @@ use std::{fmt, io};
 /// Why a reader's next bytes can't be taken.
 #[derive(Debug, Drop)]
 pub enum ReadFault {
-    /// A read failed, also by `Interrupted`; or 18446744073709551615 bytes were read, by `FileTooLarge`.
+    /// A read failed, also by `Interrupted`; or its bytes could end beyond byte 18446744073709551615, by `FileTooLarge`.
     Read(io::Error),
     /// Out of memory: for the first 128 kB, for a record that is longer, or for one that is cut in its data.
     Memory,
