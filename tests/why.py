@@ -5,7 +5,7 @@ usage: why.py PROGRAM [N]
 
 N random programs (300 where no number is given), of which some are wrong, run over random captures with random values,
 and those of tests/verdicts.txt over examples/mixed.pcap. The debugger's replies to `run`, and to `stops` with a
-breakpoint at each instruction, say what each report of `why` is: how packets ended, a line for each, the ways of some,
+breakpoint at each instruction, say what each report of `why` is: how packets ended, a line for each, the traces of some,
 and the counts in the listing and in the graph. Whole outputs are compared. For a capture that is cut at each byte, for
 one whose file header has each byte changed, and for 300 link types, `load pcap` and `run` say it. The other tests, of
 pipes, sizes, growing files and signals, are in TESTS. The last line is `N programs and M tests, F failed`.
@@ -70,16 +70,16 @@ class End(NamedTuple):
 
 class Debugged(NamedTuple):
     """What the debugger says of a program over a capture: the listing's lines, the reply to `load pcap`, the one to
-    `run`, and the way of each packet."""
+    `run`, and the trace of each packet."""
 
     program: list
     listing: list
     loaded: str
     totals: str
-    ways: list
+    traces: list
 
-    def end(self, way):
-        last = way[-1]
+    def end(self, trace):
+        last = trace[-1]
         code, _, _, k = self.program[last.pc]
         if last.asks:
             return End(last.pc, "unknown", f"{last.asks} has no value", False)
@@ -91,8 +91,8 @@ class Debugged(NamedTuple):
     def ends(self):
         """How packets ended, in the order of the report: instruction, verdict, and why no value was returned."""
         found = {}
-        for number, way in enumerate(self.ways, 1):
-            end = self.end(way)
+        for number, trace in enumerate(self.traces, 1):
+            end = self.end(trace)
             place = (end.pc, list(VERDICTS).index(end.verdict), end.verdict, "" if end.returned else f", {end.why}")
             found.setdefault(place, []).append(number)
         for (pc, _, verdict, why), numbers in sorted(found.items()):
@@ -103,25 +103,25 @@ class Debugged(NamedTuple):
         code, _, _, k = self.program[step.pc]
         return bool(code in JUMPS and COMPARED[code & ~BY_X](step.a, step.x if code & BY_X else k))
 
-    def decided(self, way):
+    def decided(self, trace):
         """The conditional jump that decided where a packet returned, and which way it went, or nothing."""
-        tests = [step for step in way if self.program[step.pc][0] in JUMPS]
-        if not tests or not self.end(way).returned:
+        tests = [step for step in trace if self.program[step.pc][0] in JUMPS]
+        if not tests or not self.end(trace).returned:
             return None
         return tests[-1], "true" if self.holds(tests[-1]) else "false"
 
     def counts(self):
         """How often each instruction ran, and how often its comparison held."""
-        steps = [step for way in self.ways for step in way]
+        steps = [step for trace in self.traces for step in trace]
         return Counter(step.pc for step in steps), Counter(step.pc for step in steps if self.holds(step))
 
 
 # The reports, as lines.
 def summary(found):
     groups = {}
-    for number, way in enumerate(found.ways, 1):
-        end = found.end(way)
-        if decided := found.decided(way):
+    for number, trace in enumerate(found.traces, 1):
+        end = found.end(trace)
+        if decided := found.decided(trace):
             test, direction = decided
             went = f"{found.listing[test.pc]}, {direction}, then {found.listing[end.pc]}"
             place = (test.pc, direction == "false")
@@ -136,8 +136,8 @@ def summary(found):
 
 
 def line_of_packet(found, number):
-    way = found.ways[number - 1]
-    end, decided = found.end(way), found.decided(way)
+    trace = found.traces[number - 1]
+    end, decided = found.end(trace), found.decided(trace)
     jump, direction = (f"l{decided[0].pc}", decided[1]) if decided else ("-", "-")
     yield f"{number}\t{end.verdict}\tl{end.pc}\t{end.why}\t{jump}\t{direction}"
 
@@ -147,14 +147,14 @@ def registers(step):
 
 
 def way_of_packet(found, number):
-    way = found.ways[number - 1]
+    trace = found.traces[number - 1]
     yield f"packet {number}"
-    for step, after in zip_longest(way, way[1:]):
+    for step, after in zip_longest(trace, trace[1:]):
         to = f"\tto l{after.pc}" if after and found.program[step.pc][0] in [JA, *JUMPS] else ""
         yield f"{found.listing[step.pc]}\t{registers(step)}{to}"
-    end = found.end(way)
+    end = found.end(trace)
     went = found.listing[end.pc] + ("" if end.returned else f", {end.why}")
-    if decided := found.decided(way):
+    if decided := found.decided(trace):
         test, direction = decided
         went = f"{found.listing[test.pc]}, {direction} with {registers(test)}, then {went}"
     yield f"{end.verdict} at {went}"
@@ -219,12 +219,12 @@ def of_each(report, found, chosen):
 
 def of_all(report, found, chosen):
     """The lines of a report of some packets together."""
-    return list(report(found._replace(ways=[found.ways[number - 1] for number in chosen])))
+    return list(report(found._replace(traces=[found.traces[number - 1] for number in chosen])))
 
 
 def lacking(found, first, last):
     """What is said of the packets from one to another that aren't there."""
-    first = max(first, len(found.ways) + 1)
+    first = max(first, len(found.traces) + 1)
     if first < last:
         yield f"no packets {first}-{last}"
     elif first == last:
@@ -238,7 +238,7 @@ def cut_line(found):
 def of_chosen(lines_of, report, found, ranges):
     """What a report says of chosen packets, what is said of those that aren't there and of a cut, and the status."""
     chosen = {number for first, last in ranges for number in range(first, last + 1)}
-    there = sorted(number for number in chosen if number <= len(found.ways))
+    there = sorted(number for number in chosen if number <= len(found.traces))
     missing = [line for first, last in sorted(ranges) for line in lacking(found, first, last)]
     said = [*missing, *cut_line(found)] if missing else []
     return lines_of(report, found, there), said, int(bool(missing))
@@ -312,13 +312,13 @@ def replies(program, folder, script):
 STOP = re.compile(r"(\d+) \d+ l(\d+) A (\d+) X (\d+) \((?:breakpoint|extension (\w+))\)")
 
 
-def way_by_packet(lines, count):
-    """The ways of so many packets by the lines of `stops`."""
-    ways = [[] for _ in range(count)]
+def trace_by_packet(lines, count):
+    """The traces of so many packets by the lines of `stops`."""
+    traces = [[] for _ in range(count)]
     for line in lines:
         number, pc, a, x, asks = STOP.fullmatch(line).groups("")
-        ways[int(number) - 1].append(Step(int(pc), int(a), int(x), asks))
-    return ways
+        traces[int(number) - 1].append(Step(int(pc), int(a), int(x), asks))
+    return traces
 
 
 def debugged(program, folder, insns, values, most):
@@ -334,8 +334,8 @@ def debugged(program, folder, insns, values, most):
     loaded, at = said[len(begin) - 1], len(begin) + size
     last = next(at for at, line in enumerate(said) if line.startswith("stops: "))
     totals = next(line for line in said[last:] if line.startswith("bpf passes:"))
-    ways = way_by_packet(said[at + size : last], int(loaded.split()[1]))
-    return Debugged(insns, said[len(begin) : at], loaded, totals, ways)
+    traces = trace_by_packet(said[at + size : last], int(loaded.split()[1]))
+    return Debugged(insns, said[len(begin) : at], loaded, totals, traces)
 
 
 def filter_text(draw, insns, listing):
@@ -350,12 +350,12 @@ def asked(draw, found):
     yield [], [], (list(summary(found)), [], 0)
     for option, report in (["-l"], coverage), (["-g"], graph):
         yield option, [], (list(report(found)), cut_line(found), 0)
-    lines = of_each(line_of_packet, found, range(1, len(found.ways) + 1))
+    lines = of_each(line_of_packet, found, range(1, len(found.traces) + 1))
     yield ["-p"], [], (lines, cut_line(found), 0)
     for option, report in (["-p"], line_of_packet), ([], way_of_packet):
-        words, ranges = drawn_numbers(draw, len(found.ways))
+        words, ranges = drawn_numbers(draw, len(found.traces))
         yield option, words, of_chosen(of_each, report, found, ranges)
-    words, ranges = drawn_numbers(draw, len(found.ways))
+    words, ranges = drawn_numbers(draw, len(found.traces))
     option, report = draw.choice([(["-l"], coverage), (["-g"], graph)])
     yield option, words, of_chosen(of_all, report, found, ranges)
 
@@ -391,7 +391,7 @@ def compared(program, task):
             draw = random.Random(seed)
             (folder / "filter").write_text(filter_text(draw, insns, found.listing))
             faults = list(differences(draw, program, folder, found, values))
-            ends = [end.why for end in map(found.end, found.ways) if not end.returned]
+            ends = [end.why for end in map(found.end, found.traces) if not end.returned]
             reached = {re.sub(r"^\w+ has", "an extension has", why) for why in ends}
     return [f"{words_of(insns)} over {capture.hex()}: {fault}" for fault in faults], reached
 
@@ -539,7 +539,7 @@ def the_last_packet_ends_it(program, folder):
     with started([program, "why", "filter", "-", "1-2"], folder) as process:
         process.stdin.write(header() + record(b"a"))
         lines = [b"packet 1\n", b"l0:\tret #0x1\tA 0 (0x0) X 0 (0x0)\n", b"pass at l0:\tret #0x1\n"]
-        yield from fault_of("a way on a live pipe", [process.stdout.readline() for _ in range(3)], lines)
+        yield from fault_of("a trace on a live pipe", [process.stdout.readline() for _ in range(3)], lines)
         process.stdin.close()
         yield from fault_of("no packet", (process.stderr.read(), process.wait()), (b"cbpf: no packet 2\n", 1))
 
@@ -622,8 +622,8 @@ def a_read_that_fails(program, folder):
     """What is due has gone out, and the totals haven't. A socket whose other end is closed before it has read all gives
     what it was sent, and then an error."""
     (folder / "filter").write_text("ret #1")
-    way = "packet 1\nl0:\tret #0x1\tA 0 (0x0) X 0 (0x0)\npass at l0:\tret #0x1\n"
-    due = {"-p": "1\tpass\tl0\t1\t-\t-\n", "- 1-9": way, "-": "", "-l": "", "-g": "", "- 7": ""}
+    trace = "packet 1\nl0:\tret #0x1\tA 0 (0x0) X 0 (0x0)\npass at l0:\tret #0x1\n"
+    due = {"-p": "1\tpass\tl0\t1\t-\t-\n", "- 1-9": trace, "-": "", "-l": "", "-g": "", "- 7": ""}
     for options, wanted in due.items():
         own, other = socket.socketpair()
         other.send(b"never read")

@@ -25,7 +25,7 @@ a number, counted from 1 as tcpdump -# and Wireshark do, or a range as 5-8.
 
 Without options and packets it prints which test decided on how many packets,
 where and why the others ended, and the first of each. With packets it prints
-the way of each: what it executed, with A and X before each instruction.
+the trace of each: what it executed, with A and X before each instruction.
 
 EXT is proto, type, ifidx, mark, queue, hatype, rxhash, cpu, vlan_tci,
 vlan_avail or vlan_tpid, and N a decimal number. Without a value a packet that

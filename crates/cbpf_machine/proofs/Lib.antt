@@ -7,6 +7,6 @@ pub mod ByLemmas
 pub mod FollowLemmas
 pub mod TogetherLemmas
 pub mod KeptLemmas
-pub mod WayLemmas
+pub mod RunningLemmas
 pub mod ChoiceLemmas
 pub mod TallyLemmas

@@ -8,8 +8,8 @@ use Rattle.cbpf_code.specs.declared.insn.Insn.{Insn}
 use Rattle.cbpf_machine.specs.declared.tally.Runs.{Runs}
 use Rattle.cbpf_machine.specs.Registers.{Registers}
 use Rattle.cbpf_machine.specs.OnPacket.{OnPacket, IsOnTrace, trace_in}
-use Rattle.cbpf_machine.specs.Ways.{is_taken, executed_in, taken_in, runs_at}
-use Rattle.cbpf_machine.proofs.WayLemmas.{take_next}
+use Rattle.cbpf_machine.specs.Choices.{is_taken, executed_in, taken_in, runs_at}
+use Rattle.cbpf_machine.proofs.RunningLemmas.{take_next}
 
 executed_more : {t : OnPacket} {n : ℕ} {s : Registers} → IsOnTrace t n s → (i : ℕ)
     → executed_in (take (n + 1) (trace_in t)) i

@@ -13,5 +13,5 @@ pub mod InPlace
 pub mod Task
 pub mod OnPacket
 pub mod Together
-pub mod Ways
-pub mod Walk
+pub mod Choices
+pub mod Running

@@ -20,12 +20,12 @@ mod outcome;
 mod packet_end;
 mod pause;
 mod reach;
+mod running;
 mod state;
 mod tally;
 mod task;
 mod trail;
 mod values;
-mod way;
 mod whole_packet;
 
 pub use equality::equal_where_same;

@@ -6,7 +6,7 @@ ghost use Rattle.cbpf_machine.specs.Registers.{zero_state};
 ghost use Rattle.cbpf_machine.specs.InPlace.{turn_of};
 ghost use Rattle.cbpf_machine.specs.Task.{entries_in, outcome_in, turn_from};
 ghost use Rattle.cbpf_machine.specs.Trace.{last_or, outcome_of};
-ghost use Rattle.cbpf_machine.specs.Ways.{last_choice};
+ghost use Rattle.cbpf_machine.specs.Choices.{last_choice};
 
 use crate::follow::{Choice, make_turns};
 use crate::meter::Meter;

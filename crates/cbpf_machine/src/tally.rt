@@ -5,15 +5,15 @@ ghost use Rattle.cbpf_code.specs.declared.checker.TheConstants.{MAX_INSTRUCTIONS
 ghost use Rattle.cbpf_machine.specs.Registers.{zero_state};
 ghost use Rattle.cbpf_machine.specs.InPlace.{turn_of};
 ghost use Rattle.cbpf_machine.specs.Trace.{last_or, outcome_of};
-ghost use Rattle.cbpf_machine.specs.Walk.{IsEnd};
+ghost use Rattle.cbpf_machine.specs.Running.{IsEnd};
 ghost use Rattle.cbpf_machine.specs.Task.{entries_in, outcome_in, turn_from};
 ghost use Rattle.cbpf_machine.specs.OnPacket.{in_task};
-ghost use Rattle.cbpf_machine.specs.Ways.{executed_in, runs_at, taken_in};
+ghost use Rattle.cbpf_machine.specs.Choices.{executed_in, runs_at, taken_in};
 
 use crate::meter::Meter;
 use crate::packet_end::PacketEnd;
+use crate::running::Running;
 use crate::task::Task;
-use crate::way::OnWay;
 use cbpf_code::{Program, SLOTS};
 use std::alloc::{AllocError, Allocator, Global};
 use std::marker::Model;
@@ -45,12 +45,12 @@ fn count_turns<A: Allocator>(task: &Task<'_, A>, runs: &mut [Runs]) -> (u32, Pac
         × ((runs_at runs.new i).taken ≤ (runs_at runs.old i).taken + 1) }
 {
     let _few = task.program.len();
-    let mut walk = OnWay::new();
+    let mut running = Running::new();
     let mut slots = [0; SLOTS];
     'turns: loop {
-        let pc = walk.pc();
-        if let Some(reason) = walk.turn(task, &mut slots, &mut runs[pc]) {
-            return (walk.turns(), walk.ended(slots, reason));
+        let pc = running.pc();
+        if let Some(reason) = running.turn(task, &mut slots, &mut runs[pc]) {
+            return (running.turns(), running.ended(slots, reason));
         }
     }
 }
@@ -64,7 +64,7 @@ pub struct Tally<A: Allocator = Global> {
 
 impl<A: Allocator> Model for Tally<A> {
     ghost use Rattle.std.specs.Prelude.{ℕ, ◌≤◌};
-    ghost use Rattle.cbpf_machine.specs.Ways.{Counted, runs_at};
+    ghost use Rattle.cbpf_machine.specs.Choices.{Counted, runs_at};
 
     ghost Value = { Counted };
 

@@ -12,13 +12,13 @@ use Rattle.cbpf_why.specs.Chosen.{beyond}
 use Rattle.cbpf_why.specs.declared.chosen.PacketRange.{PacketRange}
 use Rattle.cbpf_why.specs.declared.job.CaptureEnd.{CaptureEnd}
 use Rattle.cbpf_why.specs.declared.report.Report.{Report}
-use Rattle.cbpf_why.specs.declared.report.Report.TheVariants.{Summary, Ways, Packets, Coverage, Graph}
+use Rattle.cbpf_why.specs.declared.report.Report.TheVariants.{Summary, Traces, Packets, Coverage, Graph}
 use Rattle.cbpf_tool.specs.declared.remarks.Remarks.{Remarks}
 
 -- whether a report is the summary
 abbrev pub is_summary : Report → Bool
 is_summary Summary = true
-is_summary Ways = false
+is_summary Traces = false
 is_summary Packets = false
 is_summary Coverage = false
 is_summary Graph = false

@@ -113,12 +113,12 @@ line_faults words = or_else (request_faults words) (faults_by (requested_for wor
 
 -- ---- requests
 
--- without a flag it is the way of each packet, where packets are named
+-- without a flag it is the trace of each packet, where packets are named
 abbrev pub report_by : Option Detail → Bool → Report
 report_by (Some detail.Packets) has_packets = report.Packets
 report_by (Some detail.Listing) has_packets = report.Coverage
 report_by (Some detail.Graph) has_packets = report.Graph
-report_by None true = report.Ways
+report_by None true = report.Traces
 report_by None false = report.Summary
 
 -- this job is what the words of `why` ask for

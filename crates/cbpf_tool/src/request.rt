@@ -191,7 +191,7 @@ fn report_of(detail: Option<Detail>, has_packets: bool) -> Report
         Some(Detail::Packets) => Report::Packets,
         Some(Detail::Listing) => Report::Coverage,
         Some(Detail::Graph) => Report::Graph,
-        None if has_packets => Report::Ways,
+        None if has_packets => Report::Traces,
         None => Report::Summary,
     }
 }

@@ -10,11 +10,11 @@ use Rattle.cbpf_machine.specs.Machine.{Machine}
 use Rattle.cbpf_machine.specs.Registers.{Registers, zero_state}
 use Rattle.cbpf_machine.specs.Trace.{last_or, trace}
 use Rattle.cbpf_machine.specs.Turn.{turn}
-use Rattle.cbpf_machine.specs.Ways.{Counted as CountedRuns, executed_in, last_choice, taken_in, runs_at}
+use Rattle.cbpf_machine.specs.Choices.{Counted as CountedRuns, executed_in, last_choice, taken_in, runs_at}
 use Rattle.cbpf_machine.specs.declared.follow.Choice.{Choice}
 use Rattle.cbpf_why.specs.declared.ended.Ended.{Ended}
 use Rattle.cbpf_why.specs.declared.report.Report.{Report}
-use Rattle.cbpf_why.specs.declared.report.Report.TheVariants.{Summary, Ways, Packets, Coverage, Graph}
+use Rattle.cbpf_why.specs.declared.report.Report.TheVariants.{Summary, Traces, Packets, Coverage, Graph}
 use Rattle.cbpf_machine.specs.declared.outcome.End.{End}
 use Rattle.cbpf_machine.specs.declared.outcome.End.TheVariants.{Returned, Outside, ZeroDivisor, Unknown}
 use Rattle.pcap_classic.specs.Records.{Record}
@@ -62,7 +62,7 @@ kept-alone : (report : Report) (m : Machine) (r : Record) → counts_runs report
 kept-alone Summary m r h = absurd cc
 kept-alone Coverage m r h = refl
 kept-alone Graph m r h = refl
-kept-alone Ways m r h = refl
+kept-alone Traces m r h = refl
 kept-alone Packets m r h = refl
 
 pub tallies-more : (old new : CountedRuns) (m : Machine) (records : List Record) (r : Record) → Tallies old m records

@@ -6,7 +6,7 @@ use Rattle.std.proofs.lemmas.List.Sums.{sum_by-cons}
 use Rattle.cbpf_code.specs.Sound.{IsSound}
 use Rattle.cbpf_machine.specs.Machine.{Machine}
 use Rattle.cbpf_machine.specs.OnPacket.{OnPacket, trace_in}
-use Rattle.cbpf_machine.specs.Ways.{last_choice}
+use Rattle.cbpf_machine.specs.Choices.{last_choice}
 use Rattle.cbpf_machine.specs.declared.follow.Choice.{Choice}
 use Rattle.pcap_classic.specs.Records.{Record}
 use Rattle.cbpf_why.specs.declared.ended.Decided.{Decided}

@@ -17,10 +17,10 @@ use Rattle.cbpf_machine.specs.OnPacket.{OnPacket, IsOnTrace, trace_in, turn_in}
 use Rattle.cbpf_machine.specs.Trace.{last_or, next_of}
 use Rattle.cbpf_machine.specs.declared.outcome.Turn.{Turn}
 use Rattle.cbpf_machine.specs.declared.outcome.Turn.TheVariants.{Next, Returned, Outside, ZeroDivisor, Unknown}
-use Rattle.cbpf_machine.specs.Ways.{choice_at, is_test_at, last_choice, last_test}
+use Rattle.cbpf_machine.specs.Choices.{choice_at, is_test_at, last_choice, last_test}
 use Rattle.cbpf_machine.proofs.TraceLemmas.{goes_at, goes_last, last_or-at, trace-is_run}
-use Rattle.cbpf_machine.proofs.WayLemmas.{last_test_more_no, last_test_more_yes, take_next}
-use Rattle.cbpf_why.specs.Ways.{test_of}
+use Rattle.cbpf_machine.proofs.RunningLemmas.{last_test_more_no, last_test_more_yes, take_next}
+use Rattle.cbpf_why.specs.Traces.{test_of}
 
 -- the texts of the entries up to one, with its own
 module _ {t : OnPacket} {i : ℕ} {s : Registers} (here : IsOnTrace t i s) (f : Registers → List ℕ) where

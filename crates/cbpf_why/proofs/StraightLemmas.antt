@@ -23,14 +23,14 @@ use Rattle.cbpf_machine.specs.Registers.{Registers, zero_state}
 use Rattle.cbpf_machine.specs.Trace.{last_or, next_of}
 use Rattle.cbpf_machine.specs.Turn.{alu, compute, execute, load_a, load_absolute, load_extension, load_x, operand, width}
 use Rattle.cbpf_machine.specs.Values.{Values, value_of}
-use Rattle.cbpf_machine.specs.Ways.{choice_at, comparison, is_taken, is_test_at, last, last_choice, last_test}
+use Rattle.cbpf_machine.specs.Choices.{choice_at, comparison, is_taken, is_test_at, last, last_choice, last_test}
 use Rattle.cbpf_machine.specs.declared.outcome.End.{End}
 use Rattle.cbpf_machine.specs.declared.outcome.End.TheVariants as end_is
 use Rattle.cbpf_machine.specs.declared.outcome.Turn.{Turn}
 use Rattle.cbpf_machine.specs.declared.outcome.Turn.TheVariants as turn_is
 use Rattle.cbpf_machine.proofs.TogetherLemmas.{turn_by}
 use Rattle.cbpf_machine.proofs.TraceLemmas.{goes_at, goes_from_entry, goes_next, last_or-at, trace-is_run, turn_cases, turn_on}
-use Rattle.cbpf_machine.proofs.WayLemmas.{comparison_by}
+use Rattle.cbpf_machine.proofs.RunningLemmas.{comparison_by}
 use Rattle.cbpf_why.specs.Ends.{decided, deciding, end_by, ended}
 use Rattle.cbpf_why.specs.Groups.{row, row_by}
 use Rattle.cbpf_why.specs.Laws.{SameEnd, without_value}

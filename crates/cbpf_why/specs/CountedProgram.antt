@@ -1,7 +1,7 @@
 -- What is counted of a program over records, of which a graph is made (this project's own). No public clause names it.
 use Rattle.std.specs.Prelude.{◌≡◌, ◌<◌, ◌*◌, ℕ, false, List, length, slice_index_or}
 use Rattle.cbpf_machine.specs.Machine.{Machine}
-use Rattle.cbpf_machine.specs.Ways.{runs_at}
+use Rattle.cbpf_machine.specs.Choices.{runs_at}
 use Rattle.pcap_classic.specs.Records.{Record}
 use Rattle.cbpf_why.specs.declared.ended.Verdict.{Verdict}
 use Rattle.cbpf_why.specs.declared.graph.CountedProgram.{CountedProgram}

@@ -10,7 +10,7 @@ use Rattle.cbpf_machine.specs.Registers.{Registers, zero_state}
 use Rattle.cbpf_machine.specs.InPlace.{turn_of}
 use Rattle.cbpf_machine.specs.Trace.{trace, last_or, outcome_of}
 use Rattle.cbpf_machine.specs.Turn.{turn}
-use Rattle.cbpf_machine.specs.Ways.{last_choice}
+use Rattle.cbpf_machine.specs.Choices.{last_choice}
 use Rattle.cbpf_machine.specs.declared.follow.Choice.{Choice}
 use Rattle.cbpf_machine.specs.declared.outcome.Turn.{Turn}
 use Rattle.cbpf_machine.specs.declared.outcome.Turn.TheVariants as turn_is

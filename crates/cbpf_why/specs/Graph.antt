@@ -1,6 +1,6 @@
--- A program as a graph in DOT, the language of Graphviz: a node for each basic block with its listing, an edge for each
--- way from one block to another with how often it was taken, and for each group of packets that ended at the same
--- instruction with the same verdict a node in the colour of the verdict. A block, an instruction or a way that never
+-- A program as a graph in DOT, the language of Graphviz: a node for each basic block with its listing, an edge from
+-- one block to another with how often it was taken, and for each group of packets that ended at the same
+-- instruction with the same verdict a node in the colour of the verdict. A block, an instruction or an edge that never
 -- ran is grey (this project's own; labels and their tags are those of Graphviz's "The DOT Language" and "HTML-Like
 -- Labels").
 use Rattle.std.specs.Prelude.{ℕ, zero, suc, ◌+◌, ◌-◌, ◌*◌, Bool, ◌==◌, ◌||◌, List, [], ◌∷◌, ◌++◌, length}
@@ -108,7 +108,7 @@ facts_at m records ends i =
 abbrev pub ended_in : Facts → ℕ
 ended_in f = f.passed.count + f.failed.count + f.unknown.count
 
--- the ways from the last instruction of a block, of this operation
+-- the edges from the last instruction of a block, of this operation
 abbrev pub edges_by : ℕ → ℕ → Insn → Facts → Option Op → List ℕ
 edges_by block i insn f None = []
 edges_by block i insn f (Some Ja) = edge block (i + 1 + insn.k) [] f.runs.executed
@@ -131,18 +131,18 @@ block_head block = concat (node block ∷ codes " [label=<" ∷ [])
 abbrev pub block_end : ℕ → List ℕ
 block_end count = concat (codes ">" ∷ grey_where_none count ∷ codes "]\n" ∷ [])
 
--- the end of a block, and the ways from its last instruction
-abbrev pub end_and_ways : ℕ → List Insn → ℕ → Facts → List ℕ
-end_and_ways block list i f = block_end f.block_runs ++ edges_of block i f (slice_get list i)
+-- the end of a block, and the edges from its last instruction
+abbrev pub end_and_edges : ℕ → List Insn → ℕ → Facts → List ℕ
+end_and_edges block list i f = block_end f.block_runs ++ edges_of block i f (slice_get list i)
 
 -- an instruction's line; before it the begin of its block, where it is the first one there; and after it the end of the
--- block and the ways from it, where it is the last one
+-- block and the edges from it, where it is the last one
 abbrev pub block_part : List Insn → ℕ → Facts → List ℕ
 block_part list i f =
     let block = block_of list i in
     (if block == i then block_head block else [])
     ++ (block_line list i f.runs.executed
-    ++ (if is_last list i then end_and_ways block list i f else []))
+    ++ (if is_last list i then end_and_edges block list i f else []))
 
 -- the colour of a verdict
 abbrev pub colour : Verdict → List ℕ
@@ -180,7 +180,7 @@ end_part block f = group_end block f.passed ++ (group_end block f.failed ++ grou
 abbrev pub graph_head : List ℕ
 graph_head = codes "digraph filter {\nnode [shape=box fontname=monospace]\n"
 
--- the blocks with the ways between them, and then the groups of packets that ended
+-- the blocks with the edges between them, and then the groups of packets that ended
 unfoldable pub graph_text : Machine → List Record → List Decided → List ℕ
 graph_text m records ends =
     graph_head ++ (texts_from (λ i. block_part m.list i (facts_at m records ends i)) 0 (length m.list)

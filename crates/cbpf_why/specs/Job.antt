@@ -2,7 +2,7 @@
 use Rattle.std.specs.Prelude.{◌≡◌, ℕ, ◌+◌, ◌<◌, ◌≤◌, nat_le, Bool, true, false, List, [], ◌++◌, length, filter, map, slice_get, if◌then◌else◌}
 use Rattle.std.specs.Prelude.{Option, Some, None, IfSome, ◌^◌, Result, Ok, Err}
 use Rattle.cbpf_machine.specs.Machine.{Machine}
-use Rattle.cbpf_machine.specs.Ways.{Counted as CountedRuns, runs_at}
+use Rattle.cbpf_machine.specs.Choices.{Counted as CountedRuns, runs_at}
 use Rattle.pcap_classic.specs.Reading.{NeedsRoom, Reading}
 use Rattle.pcap_classic.specs.Records.{Record}
 use Rattle.pcap_classic.specs.Savefile.{Savefile}
@@ -11,7 +11,7 @@ use Rattle.cbpf_why.specs.declared.counted.Counted.{Counted}
 use Rattle.cbpf_why.specs.declared.ended.Decided.{Decided}
 use Rattle.cbpf_why.specs.declared.question.Question.{Question}
 use Rattle.cbpf_why.specs.declared.report.Report.{Report}
-use Rattle.cbpf_why.specs.declared.report.Report.TheVariants.{Summary, Ways, Packets, Coverage, Graph}
+use Rattle.cbpf_why.specs.declared.report.Report.TheVariants.{Summary, Traces, Packets, Coverage, Graph}
 use Rattle.cbpf_why.specs.Chosen.{chosen}
 use Rattle.cbpf_why.specs.Ends.{alone, decided}
 use Rattle.cbpf_why.specs.Groups.{KeepsAll}
@@ -28,14 +28,14 @@ abbrev pub counts_groups : Report → Bool
 counts_groups Summary = true
 counts_groups Coverage = true
 counts_groups Graph = true
-counts_groups Ways = false
+counts_groups Traces = false
 counts_groups Packets = false
 
 abbrev pub counts_runs : Report → Bool
 counts_runs Coverage = true
 counts_runs Graph = true
 counts_runs Summary = false
-counts_runs Ways = false
+counts_runs Traces = false
 counts_runs Packets = false
 
 -- what the groups keep of a packet: the summary alone names the jump that decided
@@ -43,7 +43,7 @@ abbrev pub kept_end : Report → Machine → Record → Decided
 kept_end Summary m r = decided m r
 kept_end Coverage m r = alone m r
 kept_end Graph m r = alone m r
-kept_end Ways m r = alone m r
+kept_end Traces m r = alone m r
 kept_end Packets m r = alone m r
 
 abbrev pub kept_ends : Report → Machine → List Record → List Decided

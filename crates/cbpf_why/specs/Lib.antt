@@ -2,7 +2,7 @@ pub mod Filters
 pub mod Chosen
 pub mod Ends
 pub mod Operations
-pub mod Ways
+pub mod Traces
 pub mod Packets
 pub mod Groups
 pub mod Runs

@@ -16,18 +16,18 @@ use Rattle.cbpf_why.specs.declared.job.CaptureEnd.{CaptureEnd}
 use Rattle.cbpf_why.specs.declared.job.WhyFault.{WhyFault}
 use Rattle.cbpf_why.specs.declared.job.WhyFault.TheVariants.{Read, Write, Memory}
 use Rattle.cbpf_why.specs.declared.report.Report.{Report}
-use Rattle.cbpf_why.specs.declared.report.Report.TheVariants.{Summary, Ways, Packets, Coverage, Graph}
+use Rattle.cbpf_why.specs.declared.report.Report.TheVariants.{Summary, Traces, Packets, Coverage, Graph}
 use Rattle.cbpf_why.specs.Chosen.{chosen}
 use Rattle.cbpf_why.specs.Coverage.{coverage_text}
 use Rattle.cbpf_why.specs.Ends.{alone_of, decided, decided_of, ends_of}
 use Rattle.cbpf_why.specs.Graph.{graph_text}
 use Rattle.cbpf_why.specs.Groups.{groups_text, totals}
 use Rattle.cbpf_why.specs.Packets.{packet_line}
-use Rattle.cbpf_why.specs.Ways.{way_text}
+use Rattle.cbpf_why.specs.Traces.{trace_text}
 
 -- what is written of each packet as it comes
 abbrev pub packet_text : Report → Machine → Record → List ℕ
-packet_text Ways m r = way_text m r
+packet_text Traces m r = trace_text m r
 packet_text Packets m r = packet_line (decided m r)
 packet_text Summary m r = []
 packet_text Coverage m r = []
@@ -45,7 +45,7 @@ closing_text Summary m records end =
     ++ (finished_text (totals (ends_of m records)) ++ option_map_or cut_line end [])
 closing_text Coverage m records end = coverage_text m records
 closing_text Graph m records end = graph_text m records (alone_of m records)
-closing_text Ways m records end = []
+closing_text Traces m records end = []
 closing_text Packets m records end = []
 
 -- what is written of some records

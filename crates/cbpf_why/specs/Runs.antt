@@ -2,7 +2,7 @@
 use Rattle.std.specs.Prelude.{ℕ, List, sum_by}
 use Rattle.cbpf_machine.specs.Machine.{Machine}
 use Rattle.cbpf_machine.specs.Trace.{trace}
-use Rattle.cbpf_machine.specs.Ways.{executed_in, taken_in}
+use Rattle.cbpf_machine.specs.Choices.{executed_in, taken_in}
 use Rattle.pcap_classic.specs.Records.{Record}
 
 -- how often an instruction ran over some packets

@@ -1,4 +1,4 @@
-//! The boxes of a graph, which are a program's basic blocks, and the ways between them.
+//! The boxes of a graph, which are a program's basic blocks, and the edges between them.
 
 #![tactic(auto, using(cbpf_code::proofs::WrittenLemmas::three, cbpf_code::proofs::WrittenLemmas::steps))]
 
@@ -119,7 +119,7 @@ fn write_edge<W: Write>(
     line.write(w)
 }
 
-/// Writes both ways from a conditional jump.
+/// Writes both edges from a conditional jump.
 fn write_both_edges<W: Write>(
     w: &mut W,
     block: u64,
@@ -137,7 +137,7 @@ fn write_both_edges<W: Write>(
     write_edge(w, block, next + u64::from(insn.jf), b"false ", others)
 }
 
-/// Writes the ways from the last instruction of a block.
+/// Writes the edges from the last instruction of a block.
 fn write_edges<W: Write>(
     w: &mut W,
     block: u64,
@@ -184,8 +184,8 @@ fn write_closing<W: Write>(w: &mut W, count: u64) -> Result<(), WriteFault>
     line.write(w)
 }
 
-/// Writes the end of a block after its last instruction, and the ways from it.
-fn write_ways_out<W: Write, P: Allocator>(
+/// Writes the end of a block after its last instruction, and the edges from it.
+fn write_edges_out<W: Write, P: Allocator>(
     w: &mut W,
     p: &Program<P>,
     block: u32,
@@ -193,7 +193,7 @@ fn write_ways_out<W: Write, P: Allocator>(
     facts: &Facts,
 ) -> Result<(), WriteFault>
     requires { i < length p.now }
-    ensures { Wrote (W.contents w.old) (W.contents w.new) result (spec.end_and_ways block p.now i facts.now) }
+    ensures { Wrote (W.contents w.old) (W.contents w.new) result (spec.end_and_edges block p.now i facts.now) }
 {
     write_closing(w, facts.block_runs)?;
     write_edges(w, u64::from(block), i, p.at_index(i), facts)
@@ -210,11 +210,11 @@ fn write_body<W: Write, P: Allocator>(
 ) -> Result<(), WriteFault>
     requires { i < length p.now }
     ensures { Wrote (W.contents w.old) (W.contents w.new) result (spec.block_line p.now i facts.now.runs.executed
-        ++ (if is_last then spec.end_and_ways block p.now i facts.now else [])) }
+        ++ (if is_last then spec.end_and_edges block p.now i facts.now else [])) }
 {
     write_block_line(w, p, i, facts.runs.executed)?;
     if is_last {
-        write_ways_out(w, p, block, i, facts)
+        write_edges_out(w, p, block, i, facts)
     } else {
         Ok(())
     }
@@ -232,7 +232,7 @@ pub(crate) fn write_block_part<W: Write, P: Allocator>(
     requires { i < length p.now }
     ensures { Wrote (W.contents w.old) (W.contents w.new) result
         ((if block == i then spec.block_head block else []) ++ (spec.block_line p.now i facts.now.runs.executed
-        ++ (if is_last then spec.end_and_ways block p.now i facts.now else []))) }
+        ++ (if is_last then spec.end_and_edges block p.now i facts.now else []))) }
 {
     if block != i {
         return write_body(w, p, block, i, is_last, facts);

@@ -2,7 +2,7 @@
 
 ghost use Rattle.std.specs.Prelude.{◌≡◌, ◌<◌, ◌≤◌, ℕ, List, length};
 ghost use Rattle.cbpf_code.specs.Writing.{Wrote};
-ghost use Rattle.cbpf_machine.specs.Ways.{runs_at};
+ghost use Rattle.cbpf_machine.specs.Choices.{runs_at};
 ghost use Rattle.cbpf_reply.specs.Packet.{texts_from};
 ghost use Rattle.cbpf_why.specs.Operations.{is_op_at};
 ghost use Rattle.cbpf_why.specs.Operations as operations;

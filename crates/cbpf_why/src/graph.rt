@@ -1,4 +1,4 @@
-//! A program as a graph in DOT, with how often its ways were taken.
+//! A program as a graph in DOT, with how often its edges were taken.
 
 ghost use Rattle.std.specs.Prelude.{◌≡◌, ◌<◌, ◌≤◌, ◌+◌, ℕ, List, length};
 ghost use Rattle.cbpf_code.specs.Writing.{Wrote};
@@ -80,7 +80,7 @@ impl<A: Allocator + Copy, P: Allocator> CountedProgram<'_, A, P> {
     }
 }
 
-/// Writes the blocks, and the ways between them.
+/// Writes the blocks, and the edges between them.
 fn write_blocks<W: Write, A: Allocator + Copy, P: Allocator>(
     w: &mut W,
     counted: &CountedProgram<'_, A, P>,

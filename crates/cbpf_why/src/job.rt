@@ -163,7 +163,7 @@ fn write_closing<P: Allocator, A: Allocator + Copy, W: Write>(
 {
     let p = question.program;
     match question.report {
-        Report::Ways => Ok(()),
+        Report::Traces => Ok(()),
         Report::Packets => Ok(()),
         Report::Summary => written(write_summary(w, p, &counted.groups, end)),
         Report::Coverage => written(write_counted_coverage(w, question, counted)),

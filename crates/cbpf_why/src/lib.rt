@@ -18,7 +18,7 @@ mod packets;
 mod question;
 mod report;
 mod taking;
-mod ways;
+mod traces;
 
 pub use chosen::PacketRange;
 pub use ended::{Ended, Verdict};

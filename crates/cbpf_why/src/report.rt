@@ -6,8 +6,8 @@ pub enum Report {
     /// A line for each way of the last test of packets that returned and each verdict, and for each other instruction at
     /// which packets ended; and how many passed and failed.
     Summary,
-    /// The way of each packet: what it executed.
-    Ways,
+    /// The trace of each packet: what it executed.
+    Traces,
     /// A line for each packet.
     Packets,
     /// The listing with how often each instruction ran. cbpf_command_line calls it `Listing`.

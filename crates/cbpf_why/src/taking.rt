@@ -19,7 +19,7 @@ use crate::job::WhyFault;
 use crate::packets::write_packet_line;
 use crate::question::Question;
 use crate::report::Report;
-use crate::ways::write_way;
+use crate::traces::write_trace;
 use cbpf_code::WriteFault;
 use pcap_classic::{CaptureReader, Captured, ReadFault};
 use std::alloc::Allocator;
@@ -29,7 +29,7 @@ use std::io::{Read, Write};
 fn writes_each(report: Report) -> bool
     ensures { result ≡ not (spec.counts_groups report) }
 {
-    matches!(report, Report::Ways | Report::Packets)
+    matches!(report, Report::Traces | Report::Packets)
 }
 
 /// Writes the line of a packet.
@@ -60,7 +60,7 @@ fn take_packet<P: Allocator, A: Allocator + Copy, W: Write>(
         → OnOk result (spec.Took question.now counted.new (records ++ record_of item.now ∷ [])) }
 {
     match question.report {
-        Report::Ways => write_way(w, question.program, question.values, item),
+        Report::Traces => write_trace(w, question.program, question.values, item),
         Report::Packets => write_line_of(question, w, item),
         Report::Summary => {
             add_ended::<P, A, 4>(question, counted, item);

@@ -301,7 +301,7 @@ static ROWS: [Row<'static>; 43] = [
     (Call::Filter(b"1,65536"), 1, 1),
     // Groups of those that pass, fail and ask, and how often each instruction ran.
     (Call::Why(Report::Summary), 4, 4),
-    (Call::Why(Report::Ways), 4, 4),
+    (Call::Why(Report::Traces), 4, 4),
     (Call::Why(Report::Packets), 4, 4),
     (Call::Why(Report::Coverage), 4, 4),
     // And where blocks begin.

@@ -83,7 +83,7 @@ static SUMMARIES: [&[u8]; 3] = [
     ARP_SUMMARY,
 ];
 
-/// What is reported of a file that has the first packets, or none, and may be cut after them: a summary, ways or lines.
+/// What is reported of a file that has the first packets, or none, and may be cut after them: a summary, traces or lines.
 fn text_of(rt: &impl Test, row: &Reported, file: &[u8]) -> Vec<u8> {
     let mut text = Vec::from_slice(rt.alloc(), text_after(rt, row, file)).expect(rt, "memory");
     if row.0 == Report::Summary {
@@ -146,7 +146,7 @@ fn records_of_other_lengths(rt: HostRuntime) {
 static WITHOUT_ROOM: [(Report, &[u8]); 5] = [
     (Report::Summary, b""),
     (
-        Report::Ways,
+        Report::Traces,
         b"packet 1\nl0:\tldh [12]\tA 0 (0x0) X 0 (0x0)\nfail at l0:\tldh [12], outside the packet\n",
     ),
     (Report::Packets, b"1\tfail\tl0\toutside the packet\t-\t-\n"),

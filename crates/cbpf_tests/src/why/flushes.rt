@@ -1,4 +1,4 @@
-//! Lines and ways are flushed before a read that may wait, and all that is reported is flushed at the end.
+//! Lines and traces are flushed before a read that may wait, and all that is reported is flushed at the end.
 ghost use Rattle.cbpf_why.specs.Chosen.{AreSorted};
 
 use crate::assertions::{Test, assert_named};

@@ -189,7 +189,7 @@ fn growths(rt: &impl Test, report: Report) -> u64 {
 
 #[test]
 fn each_growth_is_refused(rt: HostRuntime) {
-    for report in [Report::Summary, Report::Ways, Report::Coverage] {
+    for report in [Report::Summary, Report::Traces, Report::Coverage] {
         assert_named(&rt, growths(&rt, report) > 5, "growths", report);
     }
     let more = growths(&rt, Report::Graph);

@@ -49,7 +49,7 @@ pass 2 at l11:\tjeq #0x806, l12, l13, true, then l12:\tret #0x40000, first packe
 fail 1 at l11:\tjeq #0x806, l12, l13, false, then l13:\tret #0, first packet 2\n\
 bpf passes:3 fails:4\n";
 
-const WAYS: &[u8] = b"packet 1\n\
+const TRACES: &[u8] = b"packet 1\n\
 l0:\tldb [0]\tA 0 (0x0) X 0 (0x0)\n\
 l1:\tjeq #0x1, l2, l3\tA 2 (0x2) X 0 (0x0)\tto l3\n\
 l3:\tjeq #0x2, l4, l4\tA 2 (0x2) X 0 (0x0)\tto l4\n\
@@ -179,7 +179,7 @@ pass 1 at l1:\tjset #0x1, l3, l2, false, then l3:\tret a, first packet 1\n\
 fail 1 at l1:\tjset #0x1, l3, l2, false, then l3:\tret a, first packet 2\n\
 bpf passes:3 fails:1\n";
 
-const RET_A_WAYS: &[u8] = b"packet 1\n\
+const RET_A_TRACES: &[u8] = b"packet 1\n\
 l0:\tldb [0]\tA 0 (0x0) X 0 (0x0)\n\
 l1:\tjset #0x1, l3, l2\tA 6 (0x6) X 0 (0x0)\tto l2\n\
 l2:\tldxb 4*([0]&0xf)\tA 6 (0x6) X 0 (0x0)\n\
@@ -229,19 +229,19 @@ l0 [label=<<font color=\"grey\">l0: ret #0</font><br align=\"left\"/>> color=gre
 static REPORTS: [(Asked<'static>, &[u8], &[u8]); 14] = [
     ((FILTER, None, Report::Summary), SEVEN, SUMMARY),
     ((FILTER, Some(7), Report::Summary), SEVEN, SUMMARY_MARKED),
-    ((FILTER, None, Report::Ways), SEVEN, WAYS),
+    ((FILTER, None, Report::Traces), SEVEN, TRACES),
     ((FILTER, None, Report::Packets), SEVEN, LINES),
     ((FILTER, None, Report::Coverage), SEVEN, COVERAGE),
     ((FILTER, None, Report::Graph), SEVEN, GRAPH),
     ((RET_A, None, Report::Summary), FOUR, RET_A_SUMMARY),
-    ((RET_A, None, Report::Ways), FOUR, RET_A_WAYS),
+    ((RET_A, None, Report::Traces), FOUR, RET_A_TRACES),
     ((RET_A, None, Report::Graph), FOUR, RET_A_GRAPH),
     (
         (b"1,6 0 0 0", None, Report::Summary),
         NONE,
         b"bpf passes:0 fails:0\n",
     ),
-    ((b"1,6 0 0 0", None, Report::Ways), NONE, b""),
+    ((b"1,6 0 0 0", None, Report::Traces), NONE, b""),
     ((b"1,6 0 0 0", None, Report::Packets), NONE, b""),
     (
         (b"1,6 0 0 0", None, Report::Coverage),

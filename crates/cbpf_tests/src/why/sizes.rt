@@ -31,7 +31,7 @@ fn put_numbered(rt: &impl Test, text: &mut Vec<u8>, before: &[u8], last: u64, af
     }
 }
 
-const WAY: &[u8] = b"\n\
+const TRACE: &[u8] = b"\n\
 l0:\tjmp l4095\tA 0 (0x0) X 0 (0x0)\tto l4095\n\
 l4095:\tret #0x1\tA 0 (0x0) X 0 (0x0)\n\
 pass at l4095:\tret #0x1\n";
@@ -47,7 +47,7 @@ fn text_of(rt: &impl Test, report: Report) -> Vec<u8> {
                 b"pass 5000 at l4095:\tret #0x1, first packet 1\nbpf passes:5000 fails:0\n",
             );
         }
-        Report::Ways => put_numbered(rt, &mut text, b"packet ", 5000, WAY),
+        Report::Traces => put_numbered(rt, &mut text, b"packet ", 5000, TRACE),
         Report::Packets => put_numbered(rt, &mut text, b"", 5000, b"\tpass\tl4095\t1\t-\t-\n"),
         Report::Coverage => {
             put(rt, &mut text, b"5000\tl0:\tjmp l4095\n");
@@ -88,7 +88,7 @@ fn a_long_program_on_many_packets(rt: HostRuntime) {
     let file = repeated(rt.alloc(), HEADER, RECORD, 5000, b"").expect(&rt, "memory");
     for report in [
         Report::Summary,
-        Report::Ways,
+        Report::Traces,
         Report::Packets,
         Report::Coverage,
         Report::Graph,

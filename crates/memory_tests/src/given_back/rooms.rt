@@ -48,7 +48,7 @@ fn room_of_report(rt: &impl Test, report: Report, file: &[u8]) -> u64 {
 
 const REPORTS: [Report; 5] = [
     Report::Summary,
-    Report::Ways,
+    Report::Traces,
     Report::Packets,
     Report::Coverage,
     Report::Graph,

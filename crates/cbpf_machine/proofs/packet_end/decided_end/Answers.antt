@@ -2,11 +2,11 @@ use Rattle.std.proofs.Common.{refl, ◌∙◌, arith, ap}
 use Rattle.std.proofs.lemmas.List.{take_all}
 use Rattle.cbpf_machine.specs.Registers.{zero_state}
 use Rattle.cbpf_machine.specs.OnPacket.{in_task, trace_in}
-use Rattle.cbpf_machine.specs.Ways.{last_choice}
+use Rattle.cbpf_machine.specs.Choices.{last_choice}
 use Rattle.cbpf_machine.proofs.FollowLemmas.{start_goes}
 use Rattle.cbpf_machine.proofs.SoundLemmas.{sound_some}
 use Rattle.cbpf_machine.proofs.TraceLemmas.{length-trace_from}
-use Rattle.cbpf_machine.proofs.WayLemmas.{ends_packet}
+use Rattle.cbpf_machine.proofs.RunningLemmas.{ends_packet}
 use Rattle.cbpf_machine.proofs.packet_end.decided_end.Goals as goal
 
 pub make_turns-turns-requires-clause-inside : goal.make_turns-turns-requires-clause-inside

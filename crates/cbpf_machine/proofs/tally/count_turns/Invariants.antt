@@ -1,6 +1,6 @@
 use Rattle.std.proofs.Common.{◌≡◌, ◌-◌, length}
 use Rattle.cbpf_machine.specs.OnPacket.{in_task}
-use Rattle.cbpf_machine.specs.Walk.{Walked}
+use Rattle.cbpf_machine.specs.Running.{IsRunning}
 use Rattle.cbpf_machine.proofs.TallyLemmas.{CountsFirst}
 use Rattle.cbpf_machine.proofs.tally.count_turns.Given as goal
 
@@ -8,10 +8,10 @@ use Rattle.cbpf_machine.proofs.tally.count_turns.Given as goal
 abbrev pub invariant-turns : goal.invariant-turns
 invariant-turns g l =
     record {
-      walked : Walked (in_task l.task) l.walk l.slots;
+      running : IsRunning (in_task l.task) l.running l.slots;
       long : length l.runs ≡ length l.task.program.now;
-      counts : CountsFirst (in_task l.task) l.walk.turns l.walk.core.pc l.fn.runs l.runs;
+      counts : CountsFirst (in_task l.task) l.running.turns l.running.core.pc l.fn.runs l.runs;
     }
 
 abbrev pub decreases-turns : goal.decreases-turns
-decreases-turns g l = length l.task.program.now - l.walk.core.pc
+decreases-turns g l = length l.task.program.now - l.running.core.pc

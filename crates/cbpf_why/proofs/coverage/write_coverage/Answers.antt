@@ -1,6 +1,6 @@
 use Rattle.std.proofs.Common.{◌<◌, length, arith}
 use Rattle.cbpf_code.proofs.WrittenLemmas.{appended-nil, err-exit}
-use Rattle.cbpf_machine.specs.Ways.{runs_at}
+use Rattle.cbpf_machine.specs.Choices.{runs_at}
 use Rattle.cbpf_why.specs.Coverage.{coverage_line}
 use Rattle.cbpf_why.proofs.TextLemmas.{texts-next, texts-stop}
 use Rattle.cbpf_why.proofs.coverage.write_coverage.Goals as goal

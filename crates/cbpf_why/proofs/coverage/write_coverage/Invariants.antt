@@ -1,6 +1,6 @@
 use Rattle.cbpf_code.specs.Writing.{Appended}
 use Rattle.cbpf_reply.specs.Packet.{texts_from}
-use Rattle.cbpf_machine.specs.Ways.{runs_at}
+use Rattle.cbpf_machine.specs.Choices.{runs_at}
 use Rattle.cbpf_why.specs.Coverage.{coverage_line}
 use Rattle.cbpf_why.proofs.coverage.write_coverage.Given as goal
 

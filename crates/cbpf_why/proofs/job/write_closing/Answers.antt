@@ -6,8 +6,8 @@ use Rattle.cbpf_why.specs.Question.{machine_in}
 use Rattle.cbpf_why.proofs.InRangeLemmas.{closed_by}
 use Rattle.cbpf_why.proofs.job.write_closing.Goals as goal
 
-pub returns-in-Ways-clause-wrote : goal.returns-in-Ways-clause-wrote
-returns-in-Ways-clause-wrote g c = λ records took. rw c.in-Ways.is (appended-nil _)
+pub returns-in-Traces-clause-wrote : goal.returns-in-Traces-clause-wrote
+returns-in-Traces-clause-wrote g c = λ records took. rw c.in-Traces.is (appended-nil _)
 
 pub returns-in-Packets-clause-wrote : goal.returns-in-Packets-clause-wrote
 returns-in-Packets-clause-wrote g c = λ records took. rw c.in-Packets.is (appended-nil _)

@@ -1,5 +1,5 @@
 use Rattle.std.proofs.Common.{ap, length}
-use Rattle.cbpf_machine.specs.Ways.{runs_at}
+use Rattle.cbpf_machine.specs.Choices.{runs_at}
 use Rattle.cbpf_why.specs.Coverage.{coverage_at, coverage_line, coverage_text}
 use Rattle.cbpf_why.specs.Question.{machine_in}
 use Rattle.cbpf_why.proofs.TextLemmas.{texts-same}

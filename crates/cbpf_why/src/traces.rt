@@ -1,4 +1,4 @@
-//! The way of a packet through a program.
+//! The trace of a packet.
 
 ghost use Rattle.std.specs.Prelude.{◌≡◌, ◌<◌, ◌≤◌, ◌+◌, ◌++◌, length, IfOk, IfSome, Some, option_map, if◌then◌else◌};
 ghost use Rattle.std.specs.List.{flat_map};
@@ -6,12 +6,12 @@ ghost use Rattle.cbpf_code.specs.Writing.{Wrote};
 ghost use Rattle.cbpf_code.specs.declared.writing.TheConstants.{LINE_SIZE};
 ghost use Rattle.cbpf_machine.specs.Machine.{machine_of};
 ghost use Rattle.cbpf_machine.specs.Trace.{next_of, trace};
-ghost use Rattle.cbpf_machine.specs.Ways.{is_test_at, last_test};
+ghost use Rattle.cbpf_machine.specs.Choices.{is_test_at, last_test};
 ghost use Rattle.pcap_classic.specs.Lent.{record_of};
 ghost use Rattle.cbpf_why.specs.Ends as ends;
 ghost use Rattle.cbpf_why.specs.Operations.{is_op_at};
 ghost use Rattle.cbpf_why.specs.Operations as operations;
-ghost use Rattle.cbpf_why.specs.Ways as spec;
+ghost use Rattle.cbpf_why.specs.Traces as spec;
 
 use crate::ended::{Ended, deciding, prepend_reason_after, prepend_test, prepend_verdict};
 use cbpf_code::{Line, Op, Program, WriteFault, op_of, prepend_line, write_with_number};
@@ -119,7 +119,7 @@ fn test_after<A: Allocator>(
 
 /// How a packet ended, and its last conditional jump with the state before it.
 #[derive(Drop)]
-struct Walked {
+struct Traced {
     ended: Ended,
     test: Option<(Choice, State)>,
 }
@@ -130,12 +130,12 @@ fn write_steps<W: Write, A: Allocator>(
     p: &Program<A>,
     values: &Values,
     item: &Captured<'_>,
-) -> Result<Walked, WriteFault>
+) -> Result<Traced, WriteFault>
     ensures wrote { Wrote (W.contents w.old) (W.contents w.new) result
         (flat_map (spec.step_text (machine_of p.now values.now) (record_of item.now))
         (trace (machine_of p.now values.now) item.now.bytes.now item.now.wire)) }
-    ensures ended { IfOk result (λ walked. walked.ended ≡ ends.ended (machine_of p.now values.now) (record_of item.now)) }
-    ensures test { IfOk result (λ walked. walked.test ≡ option_map (spec.test_of p.now)
+    ensures ended { IfOk result (λ traced. traced.ended ≡ ends.ended (machine_of p.now values.now) (record_of item.now)) }
+    ensures test { IfOk result (λ traced. traced.test ≡ option_map (spec.test_of p.now)
         (last_test p.now (trace (machine_of p.now values.now) item.now.bytes.now item.now.wire))) }
 {
     let packet = packet_of(item);
@@ -156,7 +156,7 @@ fn write_steps<W: Write, A: Allocator>(
                     pc: s.pc(),
                     reason: end_by(&made),
                 };
-                return Ok(Walked { ended, test });
+                return Ok(Traced { ended, test });
             }
         }
     }
@@ -166,19 +166,19 @@ fn write_steps<W: Write, A: Allocator>(
 fn write_end<W: Write, A: Allocator>(
     w: &mut W,
     p: &Program<A>,
-    walked: &Walked,
+    traced: &Traced,
 ) -> Result<(), WriteFault>
-    requires ended { walked.now.ended.pc < length p.now }
-    requires test { IfSome walked.now.test (λ t. t.0.pc < length p.now) }
+    requires ended { traced.now.ended.pc < length p.now }
+    requires test { IfSome traced.now.test (λ t. t.0.pc < length p.now) }
     ensures { Wrote (W.contents w.old) (W.contents w.new) result
-        (spec.end_line p.now walked.now.ended walked.now.test) }
+        (spec.end_line p.now traced.now.ended traced.now.test) }
 {
-    let ended = walked.ended;
+    let ended = traced.ended;
     let mut line = Line::new();
     line.prepend(b"\n");
     prepend_reason_after(&mut line, ended.reason);
     prepend_line(&mut line, p, ended.pc);
-    if let Some((choice, s)) = deciding(ended.reason, walked.test) {
+    if let Some((choice, s)) = deciding(ended.reason, traced.test) {
         line.prepend(b", then ");
         prepend_registers(&mut line, s.a(), s.x());
         line.prepend(b" with ");
@@ -189,20 +189,20 @@ fn write_end<W: Write, A: Allocator>(
     line.write(w)
 }
 
-/// Writes the way of a packet.
+/// Writes the trace of a packet.
 // Kept out of line, as its registers would else be saved for each packet that is counted.
 #[inline(never)]
-pub(crate) fn write_way<W: Write, A: Allocator>(
+pub(crate) fn write_trace<W: Write, A: Allocator>(
     w: &mut W,
     p: &Program<A>,
     values: &Values,
     item: &Captured<'_>,
 ) -> Result<(), WriteFault>
     ensures { Wrote (W.contents w.old) (W.contents w.new) result
-        (spec.way_text (machine_of p.now values.now) (record_of item.now)) }
+        (spec.trace_text (machine_of p.now values.now) (record_of item.now)) }
 {
     write_with_number(w, b"packet ", item.number, b"\n")?;
-    let walked = write_steps(w, p, values, item)?;
+    let traced = write_steps(w, p, values, item)?;
     let _sound = p.len();
-    write_end(w, p, &walked)
+    write_end(w, p, &traced)
 }

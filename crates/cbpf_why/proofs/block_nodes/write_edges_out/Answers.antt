@@ -1,5 +1,5 @@
 use Rattle.cbpf_code.proofs.WrittenLemmas.{first-failed, wrote-then}
-use Rattle.cbpf_why.proofs.block_nodes.write_ways_out.Goals as goal
+use Rattle.cbpf_why.proofs.block_nodes.write_edges_out.Goals as goal
 
 pub returns-in_err-write_closing : goal.returns-in_err-write_closing
 returns-in_err-write_closing g c = first-failed _ _ _ _ _ c.from_residual.ensures.0 c.in_err-write_closing.ensures

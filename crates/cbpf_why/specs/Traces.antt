@@ -1,4 +1,4 @@
--- The way of a packet: each instruction that it executes, with A and X before, and where a jump went; at last how the
+-- The trace of a packet: each instruction that it executes, with A and X before, and where a jump went; at last how the
 -- packet ends, and where it returned, the last conditional jump before that (this project's own).
 use Rattle.std.specs.Prelude.{ℕ, List, [], ◌∷◌, ◌++◌, codes, decimal, Option, Some, None, option_map}
 use Rattle.std.specs.Prelude.{if◌then◌else◌}
@@ -10,7 +10,7 @@ use Rattle.cbpf_machine.specs.Machine.{Machine}
 use Rattle.cbpf_machine.specs.Registers.{Registers}
 use Rattle.cbpf_machine.specs.Trace.{trace, next_of}
 use Rattle.cbpf_machine.specs.Turn.{turn}
-use Rattle.cbpf_machine.specs.Ways.{choice_at, last_test}
+use Rattle.cbpf_machine.specs.Choices.{choice_at, last_test}
 use Rattle.cbpf_machine.specs.declared.follow.Choice.{Choice}
 use Rattle.pcap_classic.specs.Records.{Record}
 use Rattle.cbpf_why.specs.declared.ended.Ended.{Ended}
@@ -60,8 +60,8 @@ end_line list e last =
     ∷ reason_after e.reason ∷ codes "\n" ∷ [])
 
 -- the packet's number, a line for each instruction that it executes, and how it ends
-unfoldable pub way_text : Machine → Record → List ℕ
-way_text m r =
+unfoldable pub trace_text : Machine → Record → List ℕ
+trace_text m r =
     let entries = trace m r.bytes r.wire in
     with_number (codes "packet ") r.number (codes "\n")
     ++ (flat_map (step_text m r) entries

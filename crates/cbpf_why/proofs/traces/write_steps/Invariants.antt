@@ -4,9 +4,9 @@ use Rattle.cbpf_code.specs.Writing.{Appended}
 use Rattle.cbpf_machine.specs.Machine.{machine_of}
 use Rattle.cbpf_machine.specs.OnPacket.{IsOnTrace, on_packet, trace_in}
 use Rattle.pcap_classic.specs.Lent.{record_of}
-use Rattle.cbpf_machine.specs.Ways.{last_test}
-use Rattle.cbpf_why.specs.Ways.{step_text, test_of}
-use Rattle.cbpf_why.proofs.ways.write_steps.Given as goal
+use Rattle.cbpf_machine.specs.Choices.{last_test}
+use Rattle.cbpf_why.specs.Traces.{step_text, test_of}
+use Rattle.cbpf_why.proofs.traces.write_steps.Given as goal
 
 abbrev pub invariant-turns : goal.invariant-turns
 invariant-turns g l = record {

@@ -5,9 +5,9 @@ use Rattle.cbpf_machine.proofs.FollowLemmas.{start_goes}
 use Rattle.cbpf_machine.proofs.TraceLemmas.{goes_next, turn_on}
 use Rattle.pcap_classic.specs.Lent.{record_of}
 use Rattle.cbpf_why.specs.Ends.{ended_at}
-use Rattle.cbpf_why.specs.Ways.{step_text}
+use Rattle.cbpf_why.specs.Traces.{step_text}
 use Rattle.cbpf_why.proofs.StepLemmas.{last_is, next_is, steps-next, steps-stop, steps-done, test_last, test_next}
-use Rattle.cbpf_why.proofs.ways.write_steps.Goals as goal
+use Rattle.cbpf_why.proofs.traces.write_steps.Goals as goal
 
 pub turns-init : goal.turns-init
 turns-init g c = rw (c.new-meter.ensures, c.zero-s.ensures) (record {
