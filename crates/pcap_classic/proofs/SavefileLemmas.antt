@@ -1,6 +1,6 @@
 -- What a file holds, by the relations and by the function of its bytes.
 use Rattle.std.proofs.Common.{◌≡◌, ℕ, Bool, true, false, List, length, drop, Option, Some, None, Result, Ok, Err}
-use Rattle.std.proofs.Common.{◌⊎◌, inl, inr, arith, refl, ◌≤◌, ◌∙◌, sym}
+use Rattle.std.proofs.Common.{◌⊎◌, inl, inr, arith, refl, ◌≤◌, ◌∙◌, sym, ap}
 use Rattle.std.specs.Prelude.{nat_lt, if◌then◌else◌}
 use Rattle.pcap_classic.specs.FileNumbers.{number_at}
 use Rattle.std.proofs.lemmas.Bool.{ltb-false, ltb-true}
@@ -67,7 +67,7 @@ says file = by (nat_lt (length file) FILE_HEADER) refl (magic_of file) refl
         → Says file (if b then Err FileHeaderCut else header_by_magic m file)
     by true short m e = ltb-true (length file) FILE_HEADER short
     by false long None e =
-        (ltb-false _ FILE_HEADER long, λ order nanos h. let is = magic-found file order nanos h in absurd (cc))
+        (ltb-false _ FILE_HEADER long, λ order nanos h. let is = magic-found file order nanos h in absurd (cc), refl)
     by false long (Some m) e =
         by_version m (ltb-false (length file) FILE_HEADER long) (magic-is file m e) (is_version_2_4 m.order file) refl
 
@@ -87,17 +87,17 @@ one_capture file c d h k =
 pub only_memory : OnlyMemory
 only_memory file c Memory h k = refl
 only_memory file c (Header FileHeaderCut) h k = let long = h.long in absurd (omega (arith, k))
-only_memory file c (Header UnknownMagic) h k = absurd (k.1 h.order c.nanos h.magic)
+only_memory file c (Header (UnknownMagic magic)) h k = absurd (k.1 h.order c.nanos h.magic)
 only_memory file c (Header UnknownVersion) h k =
     absurd (k.4 (rw (← (one_magic file k.1 h.order k.2 c.nanos k.3 h.magic).0) h.version))
 
 pub one_refusal : OneRefusal
 one_refusal file Memory f h k = only_memory file h.0 f h.1 k
 one_refusal file e Memory h k = sym (only_memory file k.0 e k.1 h)
-one_refusal file (Header UnknownMagic) (Header UnknownMagic) h k = refl
+one_refusal file (Header (UnknownMagic m)) (Header (UnknownMagic n)) h k = ap (λ x. Header (UnknownMagic x)) (k.2 ∙ sym h.2)
 one_refusal file (Header UnknownVersion) (Header UnknownVersion) h k = refl
-one_refusal file (Header UnknownMagic) (Header UnknownVersion) h k = absurd (h.1 k.1 k.2 k.3)
-one_refusal file (Header UnknownVersion) (Header UnknownMagic) h k = absurd (k.1 h.1 h.2 h.3)
+one_refusal file (Header (UnknownMagic m)) (Header UnknownVersion) h k = absurd (h.1 k.1 k.2 k.3)
+one_refusal file (Header UnknownVersion) (Header (UnknownMagic m)) h k = absurd (k.1 h.1 h.2 h.3)
 one_refusal file (Header FileHeaderCut) (Header FileHeaderCut) h k = refl
 one_refusal file (Header FileHeaderCut) (Header _) h k = absurd (omega (arith, h, k.0))
 one_refusal file (Header _) (Header FileHeaderCut) h k = absurd (omega (arith, k, h.0))

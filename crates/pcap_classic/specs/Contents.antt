@@ -66,7 +66,7 @@ is_version_2_4 order file = (number_at order 4 2 file == 2) && (number_at order 
 
 -- the header, its last number being the link type; or the first reason why it is none
 abbrev pub header_by_magic : Option Magic → List ℕ → Result FileHeader HeaderFault
-header_by_magic None file = Err UnknownMagic
+header_by_magic None file = Err (UnknownMagic (number_at Big 0 4 file))
 header_by_magic (Some magic) file =
     if is_version_2_4 magic.order file then Ok (record { magic = magic; link = number_at magic.order 20 4 file })
     else Err UnknownVersion

@@ -16,7 +16,7 @@ out_of_memory = codes "out of memory"
 -- what the refusal of a header says
 abbrev pub header_message : HeaderFault → List ℕ
 header_message FileHeaderCut = codes "P1 file header is cut"
-header_message UnknownMagic = codes "P2 unknown magic"
+header_message (UnknownMagic magic) = codes "P2 unknown magic"
 header_message UnknownVersion = codes "P3 version is not 2.4"
 
 -- and that of a capture

@@ -4,6 +4,7 @@ use Rattle.std.specs.Prelude.{◌≡◌, ◌≤◌, ◌<◌, ◌⊎◌, ℕ, if�
 use Rattle.pcap_classic.specs.FileNumbers.{number_at}
 use Rattle.pcap_classic.specs.Records.{Record, Holds}
 use Rattle.pcap_classic.specs.declared.captured.Endianness.{Endianness}
+use Rattle.pcap_classic.specs.declared.captured.Endianness.TheVariants.{Big}
 use Rattle.pcap_classic.specs.declared.ending.Ending.{Ending}
 use Rattle.pcap_classic.specs.declared.header.{CaptureFault.CaptureFault, TheConstants.FILE_HEADER}
 use Rattle.pcap_classic.specs.declared.header.CaptureFault.TheVariants.{Header, Memory}
@@ -48,8 +49,8 @@ pub record IsSavefile (file : List ℕ) (c : Savefile) : Type 0 where
 -- a file has no header of a capture, for this reason
 abbrev pub IsHeaderRefusal : HeaderFault → List ℕ → Type 0
 IsHeaderRefusal FileHeaderCut file = length file < FILE_HEADER
-IsHeaderRefusal UnknownMagic file = (FILE_HEADER ≤ length file)
-    × ((order : Endianness) (nanos : Bool) → ¬ HasMagic order nanos file)
+IsHeaderRefusal (UnknownMagic magic) file = (FILE_HEADER ≤ length file)
+    × ((order : Endianness) (nanos : Bool) → ¬ HasMagic order nanos file) × (magic ≡ number_at Big 0 4 file)
 IsHeaderRefusal UnknownVersion file = (FILE_HEADER ≤ length file) × (order : Endianness) × (nanos : Bool)
     × HasMagic order nanos file × (¬ HasVersion order file)
 

@@ -20,8 +20,9 @@ const NANOS: u32 = 0xa1b2_3c4d;
 pub enum HeaderFault {
     /// P1: there are fewer than 24 bytes, the length of a file header.
     FileHeaderCut,
-    /// P2: the first four bytes are neither 0xa1b2c3d4 nor 0xa1b23c4d, in either byte order.
-    UnknownMagic,
+    /// P2: the first four bytes, which this is as a number with the highest byte first, are neither 0xa1b2c3d4 nor
+    /// 0xa1b23c4d, in either byte order.
+    UnknownMagic(u32),
     /// P3: the version is not 2.4.
     UnknownVersion,
 }
@@ -33,7 +34,7 @@ impl HeaderFault {
     {
         match *self {
             HeaderFault::FileHeaderCut => "P1 file header is cut",
-            HeaderFault::UnknownMagic => "P2 unknown magic",
+            HeaderFault::UnknownMagic(_) => "P2 unknown magic",
             HeaderFault::UnknownVersion => "P3 version is not 2.4",
         }
     }
@@ -134,7 +135,7 @@ pub(crate) fn header_of(file: &[u8]) -> Result<FileHeader, HeaderFault>
         return Err(HeaderFault::FileHeaderCut);
     }
     let Some(magic) = magic_of(file) else {
-        return Err(HeaderFault::UnknownMagic);
+        return Err(HeaderFault::UnknownMagic(Endianness::Big.read_u32(file, 0)));
     };
     if !is_version_2_4(magic.order, file) {
         return Err(HeaderFault::UnknownVersion);
