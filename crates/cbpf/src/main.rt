@@ -3,16 +3,10 @@
 
 ghost use Rattle.std.specs.Io.{ReadsAtMost};
 ghost use Rattle.std.specs.Io.KnownBytes.{ReadConsumes};
-ghost use Rattle.std.specs.Prelude.{◌≡◌};
-ghost use Rattle.std.specs.Process.{exit_status};
 ghost use Rattle.cbpf_tool.specs.Hosted.{unknown};
-ghost use Rattle.cbpf_tool.specs.RunJob.{request_status};
 ghost use Rattle.cbpf.specs.declared.Source.TheVariants as source;
 
-use cbpf_tool::{
-    CreateFault, DiskFiles, Failure, Host, LineFault, Remarks, Request, ToolFault, WhyFailure,
-    read_request, request_status, run_request, write_remarks,
-};
+use cbpf_tool::{CreateFault, DiskFiles, Exit, Host, run_words, write_exit};
 use std::alloc::Allocator;
 use std::io::{self, BufWriter, ErrorKind, Printer, Read, Write};
 use std::process::ExitCode;
@@ -114,90 +108,33 @@ fn words<R: Env + AllocGlobal>(rt: &R) -> io::Result<Vec<String>> {
     Ok(words)
 }
 
-/// Writes what is to be said of a report to the standard error, by one write where there is memory.
-fn say<E: Print, A: Allocator>(errors: &E, alloc: A, remarks: &Remarks) {
+/// Writes what is to be said to the standard error, by one write where there is memory.
+fn say<E: Print, A: Allocator>(errors: &E, alloc: A, exit: &Exit) {
     match BufWriter::new(alloc, io::writer(errors)) {
         Ok(mut w) => {
-            let _ = write_remarks(&mut w, remarks);
+            let _ = write_exit(&mut w, exit);
             let _ = w.flush();
         }
         Err(_) => {
-            let _ = write_remarks(&mut io::writer(errors), remarks);
+            let _ = write_exit(&mut io::writer(errors), exit);
         }
     }
 }
 
-/// Says why the program failed, where it did, or what is to be said of a report, and gives the status with which the
-/// program ends.
-fn end<R: Eprint + AllocGlobal, E: Print>(
-    rt: &R,
-    errors: &E,
-    done: &Result<Option<Remarks>, WhyFailure>,
-) -> ExitCode
-    ensures { exit_status result ≡ request_status done.now }
-{
-    match done {
-        Ok(Some(remarks)) => say(errors, rt.alloc(), remarks),
-        Ok(None) => {}
-        Err(failure) => {
-            let _ = eprintln!(rt; "cbpf: {failure}");
-        }
-    }
-    request_status(done)
-}
-
-fn report<R: Eprint>(rt: &R, failure: Failure) -> ExitCode
-    ensures { exit_status result ≡ 1 }
-{
-    let _ = eprintln!(rt; "cbpf: {failure}");
-    ExitCode::FAILURE
-}
-
-/// Prints help or the version. A reader that closes its pipe has seen enough of such a text.
-fn explain<R: Print + Eprint>(rt: &R, text: &str) -> ExitCode {
-    match print!(rt; "{text}") {
-        Ok(()) => ExitCode::SUCCESS,
-        Err(e) if e.kind() == ErrorKind::BrokenPipe => ExitCode::SUCCESS,
-        Err(_) => report(rt, Failure::Tool(ToolFault::Write)),
-    }
-}
-
-/// Says why the command line is refused.
-fn refuse<R: Eprint>(rt: &R, text: &str) -> ExitCode
-    ensures { exit_status result ≡ 2 }
-{
-    let _ = eprint!(rt; "{text}");
-    ExitCode::from(2)
-}
-
-fn run<R: Input + Print + Eprint + Files + AllocGlobal, E: Print>(
-    rt: &R,
-    errors: &E,
-    request: Request,
-) -> ExitCode {
-    let done = run_request(rt.alloc(), &mut RealHost { rt }, request);
-    end(rt, errors, &done)
-}
-
-fn do_request<R: Input + Print + Eprint + Files + AllocGlobal, E: Print>(
-    rt: &R,
-    errors: &E,
-    words: Vec<String>,
-) -> ExitCode {
-    match read_request(rt.alloc(), words) {
-        Ok(request) => run(rt, errors, request),
-        Err(LineFault::Help(text)) => explain(rt, text.as_str()),
-        Err(LineFault::Refused(text)) => refuse(rt, text.as_str()),
-        Err(LineFault::Memory) => report(rt, Failure::Tool(ToolFault::Memory)),
+/// How the program ends where its words can't be had.
+fn without_words(fault: io::Error) -> Exit {
+    if fault.kind() == ErrorKind::OutOfMemory {
+        Exit::out_of_memory()
+    } else {
+        Exit::NotUtf8
     }
 }
 
 fn main(rt: HostRuntime) -> ExitCode {
-    match words(&rt) {
-        Ok(words) => do_request(&rt, &rt.stderr(), words),
-        Err(e) if e.kind() == ErrorKind::OutOfMemory => {
-            report(&rt, Failure::Tool(ToolFault::Memory))
-        }
-        Err(_) => refuse(&rt, "cbpf: an argument is not UTF-8\n"),
-    }
+    let exit = match words(&rt) {
+        Ok(words) => run_words(rt.alloc(), &mut RealHost { rt: &rt }, words),
+        Err(fault) => without_words(fault),
+    };
+    say(&rt.stderr(), rt.alloc(), &exit);
+    exit.status()
 }

@@ -47,9 +47,13 @@ session_message Memory = out_of_memory
 
 -- ---- the lines of a message
 
--- what a fault says, as a line
+-- what a fault says, at the end of a line that begins so
+abbrev pub message_line : List ℕ → List ℕ → List ℕ
+message_line start message = concat (start ∷ message ∷ codes "\n" ∷ [])
+
+-- what a fault says, as a line of the debugger
 abbrev pub error_line : List ℕ → List ℕ
-error_line message = concat (codes "error: " ∷ message ∷ codes "\n" ∷ [])
+error_line message = message_line (codes "error: ") message
 
 -- the line of a growth that was refused
 abbrev pub memory_text : List ℕ

@@ -119,24 +119,31 @@ impl Error for SessionFault {}
 
 const OUT_OF_MEMORY: Message = Text("out of memory");
 
-/// Writes the line of what a fault says.
-pub fn write_error<W: Write>(w: &mut W, message: Message) -> Result<(), WriteFault>
-    ensures { Wrote (W.contents w.old) (W.contents w.new) result (spec.error_line (message_text message)) }
+/// Writes a line that begins so and ends with what a fault says.
+pub fn write_message<W: Write>(w: &mut W, start: &[u8], message: Message) -> Result<(), WriteFault>
+    ensures { Wrote (W.contents w.old) (W.contents w.new) result (spec.message_line start.now (message_text message)) }
 {
     match message {
-        Text(text) => write_parts(w, &[b"error: ", text.as_bytes(), b"\n"]),
+        Text(text) => write_parts(w, &[start, text.as_bytes(), b"\n"]),
         Number(before, n, after) => {
             let mut number = Buffer::new();
             let n = number.format(n).as_bytes();
             let (before, after) = (before.as_bytes(), after.as_bytes());
-            write_parts(w, &[b"error: ", before, n, after, b"\n"])
+            write_parts(w, &[start, before, n, after, b"\n"])
         }
         Numbers(before, m, between, n, after) => {
             let (mut first, mut second) = (Buffer::new(), Buffer::new());
             let (m, n) = (first.format(m).as_bytes(), second.format(n).as_bytes());
             let (before, between) = (before.as_bytes(), between.as_bytes());
             let after = after.as_bytes();
-            write_parts(w, &[b"error: ", before, m, between, n, after, b"\n"])
+            write_parts(w, &[start, before, m, between, n, after, b"\n"])
         }
     }
+}
+
+/// Writes the line of what a fault says.
+pub fn write_error<W: Write>(w: &mut W, message: Message) -> Result<(), WriteFault>
+    ensures { Wrote (W.contents w.old) (W.contents w.new) result (spec.error_line (message_text message)) }
+{
+    write_message(w, b"error: ", message)
 }

@@ -26,7 +26,7 @@ pub use cbpf_machine::When;
 pub use counts::{write_finished, write_limit, write_place, write_went_to};
 pub use dump::write_stop;
 pub use equality::equal_where_same;
-pub use errors::{CommandFault, LoadFault, write_error};
+pub use errors::{CommandFault, LoadFault, write_error, write_message};
 pub use law::{place_order, row_length};
 pub use loads::{write_capture, write_cut, write_program};
 pub use record::{packet_of, task_of};

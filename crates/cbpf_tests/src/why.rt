@@ -72,8 +72,10 @@ pub(crate) type Asked<'a> = (&'a [u8], Option<u32>, Report);
 
 /// The program of a filter's text.
 fn filter(rt: &impl Test, text: &[u8]) -> Program {
-    let text = Vec::from_slice(rt.alloc(), text).expect(rt, "memory");
-    program_of(rt.alloc(), text).ok().expect(rt, "a filter")
+    let mut text = Vec::from_slice(rt.alloc(), text).expect(rt, "memory");
+    program_of(rt.alloc(), text.as_mut_slice())
+        .ok()
+        .expect(rt, "a filter")
 }
 
 /// Values of which `mark` has one, or none has.

@@ -2,6 +2,7 @@
 
 ghost use Rattle.std.specs.Prelude.{◌≡◌, ℕ};
 ghost use Rattle.cbpf_syntax.specs.Refusals.{ParseFault, reported_at};
+ghost use Rattle.cbpf_text.specs.Messages.{kind_text};
 ghost use Rattle.cbpf_text.specs.Refusals.{bad_piece_kind, grammar_kind};
 
 use crate::fault_at::FaultAt;
@@ -37,15 +38,12 @@ pub enum AsmKind {
     NoInstruction,
 }
 
-/// Shows its number and what is wrong.
-impl fmt::Display for AsmKind {
-    ghost use Rattle.std.specs.Prelude.{Some};
-    ghost use Rattle.cbpf_text.specs.Messages.{kind_text};
-
-    ghost output = { λ kind. Some (kind_text kind) };
-
-    fn fmt<W: fmt::Write>(&self, f: &mut fmt::Formatter<W>) -> fmt::Result {
-        f.write_str(match *self {
+impl AsmKind {
+    /// Its number and what is wrong.
+    pub fn message(&self) -> &'static str
+        ensures { result.now ≡ kind_text self.now }
+    {
+        match *self {
             AsmKind::NoToken => "A1 unknown byte",
             AsmKind::OpenComment => "A2 comment not closed",
             AsmKind::LargeNumber => "A3 number out of range",
@@ -57,7 +55,18 @@ impl fmt::Display for AsmKind {
             AsmKind::TooFar => "A9 conditional target further than 255",
             AsmKind::TooMany => "A10 more than 4096 instructions",
             AsmKind::NoInstruction => "A11 no instruction",
-        })
+        }
+    }
+}
+
+impl fmt::Display for AsmKind {
+    ghost use Rattle.std.specs.Prelude.{Some};
+    ghost use Rattle.cbpf_text.specs.Messages.{kind_text};
+
+    ghost output = { λ kind. Some (kind_text kind) };
+
+    fn fmt<W: fmt::Write>(&self, f: &mut fmt::Formatter<W>) -> fmt::Result {
+        f.write_str(self.message())
     }
 }
 

@@ -9,7 +9,7 @@ use Rattle.cbpf_tool.specs.declared.fault.ToolFault.{ToolFault}
 use Rattle.cbpf_tool.specs.declared.fault.ToolFault.TheVariants.{Source as RefusedSource, Read, Write, Memory}
 use Rattle.std.specs.FinMap as map
 use Rattle.cbpf_tool.specs.Hosted.{Hosted, Event, and_then, without_output, opened, created, wrote, printed}
-use Rattle.cbpf_tool.specs.Jobs.{tooled, RanOnce, Prints, RunsTool, AssembledTo, DebuggedTo, RepliesTo}
+use Rattle.cbpf_tool.specs.Jobs.{tooled, RanOnce, RunsTool, AssembledTo, AssemblesTo, DebuggedTo, RepliesTo}
 use Rattle.cbpf_tool.specs.declared.failure.Failure.{Failure}
 
 pub appended-some : (old : List ℕ) (new : Option (List ℕ)) (t : List ℕ) → Appended (Some old) new t
@@ -73,13 +73,11 @@ debugged-left h mid last new script w event t m l text some d p =
 
 -- ---- after a file was opened or created
 
-pub asm-opened : (h mid new : Hosted) (name at bytes : List ℕ) (form : Form) (t : Result (Unit {0}) ToolFault)
-    (r : Result (Unit {0}) Failure) → at ≡ name → map.get h.files at ≡ Some bytes
-    → mid ≡ and_then h (opened at ∷ []) → r ≡ tooled t
-    → RanOnce (without_output mid) new printed (AssembledTo bytes form) t
-    → (x : List ℕ) × (map.get h.files name ≡ Some x)
-    × Prints (and_then h (opened name ∷ [])) new (AssembledTo x form) r
-asm-opened h mid new name at bytes form t r e g m q d = (bytes, rw e at g, (t, q, rw (m, e) at d))
+pub asm-opened : (h mid new : Hosted) (name at bytes : List ℕ) (form : Form) (r : Result (Unit {0}) Failure)
+    → at ≡ name → map.get h.files at ≡ Some bytes → mid ≡ and_then h (opened at ∷ [])
+    → AssemblesTo mid new bytes form r
+    → (x : List ℕ) × (map.get h.files name ≡ Some x) × AssemblesTo (and_then h (opened name ∷ [])) new x form r
+asm-opened h mid new name at bytes form r e g m d = (bytes, rw e at g, rw (m, e) at d)
 
 pub dbg-opened : (h mid new : Hosted) (name at bytes : List ℕ) (output : Option (List ℕ))
     (r : Result (Unit {0}) Failure) → at ≡ name → map.get h.files at ≡ Some bytes

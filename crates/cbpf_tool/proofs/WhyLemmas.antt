@@ -28,10 +28,10 @@ reported-some q c count new (Err Memory) h = appended-some [] new _ h.0.wrote
 reported-some q c count new (Err Write) h = part-some [] new _ h
 
 pub report-printed : (h mid new : Hosted) (q : Query) (name : Option (List ℕ)) (c : Savefile) (count : ℕ)
-    (old w : Option (List ℕ)) (end : Result (Option CaptureEnd) WhyFault) (r : Result (Option Remarks) WhyFailure)
+    (old w : Option (List ℕ)) (end : Result (Option CaptureEnd) WhyFault) (r : Result Remarks WhyFailure)
     → mid ≡ without_output h → old ≡ Some [] → Reported q.report q.ranges q.machine c count old w end
     → ((text : List ℕ) → w ≡ Some text → new ≡ and_then mid (printed text ∷ []))
-    → IsReported q.report q.ranges name end r → PrintsReport h new q name c r
+    → IsReported q.report q.ranges name c.link end r → PrintsReport h new q name c r
 report-printed h mid new q name c count old w end r m o d p e =
     let b : Reported q.report q.ranges q.machine c count (Some []) w end = rw o at d in
     let some = reported-some q c count w end b in
@@ -50,7 +50,7 @@ open-refused h q name bytes (ReadAt (read_fault.Read x)) e refusal fails = unrea
 open-refused h q name bytes (ReadAt read_fault.Memory) e refusal fails = unread e refl (inr fails) refl
 
 -- a report on a file that was opened
-pub report-opened : (h mid new : Hosted) (name at bytes : List ℕ) (q : Query) (r : Result (Option Remarks) WhyFailure)
+pub report-opened : (h mid new : Hosted) (name at bytes : List ℕ) (q : Query) (r : Result Remarks WhyFailure)
     → at ≡ name → map.get h.files at ≡ Some bytes → mid ≡ and_then h (opened at ∷ [])
     → ReportsOn mid new q (Some name) bytes r
     → (x : List ℕ) × (map.get h.files name ≡ Some x) × ReportsOn (and_then h (opened name ∷ [])) new q (Some name) x r

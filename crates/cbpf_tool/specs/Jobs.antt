@@ -7,21 +7,30 @@ use Rattle.cbpf_tool.specs.Assembling.{Assembled}
 use Rattle.cbpf_tool.specs.Debugged.{Debugged}
 use Rattle.cbpf_tool.specs.FileMap.{FileSource, known_source}
 use Rattle.cbpf_tool.specs.declared.fault.ToolFault.{ToolFault}
+use Rattle.cbpf_tool.specs.declared.fault.ToolFault.TheVariants as tool
 use Rattle.cbpf_tool.specs.declared.fault.ToolFault.TheVariants.{Memory}
+use Rattle.cbpf_tool.specs.Hints.{source_hint}
 use Rattle.cbpf_tool.specs.Hosted.{Hosted, Event, and_then, without_input, without_output}
 use Rattle.cbpf_tool.specs.Hosted.{opened, not_opened, created, not_created, wrote, printed}
 use Rattle.cbpf_tool.specs.declared.failure.Failure.{Failure}
-use Rattle.cbpf_tool.specs.declared.failure.Failure.TheVariants.{Tool, CannotOpen}
+use Rattle.cbpf_tool.specs.declared.failure.Failure.TheVariants.{Tool, Source, CannotOpen}
 
 -- the result of a tool as that of a job
 abbrev pub tooled : Result (Unit {0}) ToolFault → Result (Unit {0}) Failure
 tooled (Ok x) = Ok x
 tooled (Err e) = Err (Tool e)
 
+-- the result of the assembler over a source as that of a job, which shows the line of the source's fault
+abbrev pub assembled : List ℕ → Result (Unit {0}) ToolFault → Result (Unit {0}) Failure
+assembled source (Ok x) = Ok x
+assembled source (Err (tool.Source fault)) = Err (Source fault (source_hint source fault))
+assembled source (Err e) = Err (Tool e)
+
 -- the name of the file that could not be opened or created
 abbrev pub unopened : Result (Unit {0}) Failure → Option (List ℕ)
 unopened (Ok x) = None
 unopened (Err (Tool e)) = None
+unopened (Err (Source fault hint)) = None
 unopened (Err (CannotOpen n)) = Some (string_bytes n)
 
 -- there was no room for a buffer, and nothing was done; or the tool left a text, of which `Done` says what it is, and
@@ -56,12 +65,22 @@ DebuggedTo h script text t =
     (left : Option (List ℕ)) × (g : FileSource)
     × Debugged script left (Some []) (Some text) (known_source h.files 0) g t
 
+-- an answer of the assembler over a source, as that of a job
+abbrev pub IsAssembled : List ℕ → Form → Option (List ℕ) → Option (List ℕ) → Result (Unit {0}) Failure → Type 0
+IsAssembled source form old new r =
+    (t : Result (Unit {0}) ToolFault) × (r ≡ assembled source t) × Assembled source form old new t
+
+-- a source was assembled to the standard output
+abbrev pub AssemblesTo : Hosted → Hosted → List ℕ → Form → Result (Unit {0}) Failure → Type 0
+AssemblesTo old new source form r = (t : Result (Unit {0}) ToolFault) × (r ≡ assembled source t)
+    × RanOnce (without_output old) new printed (AssembledTo source form) t
+
 -- `asm`: the source is the standard input, or the file, which is opened first
 abbrev pub AsmDone : Hosted → Hosted → Form → Option (List ℕ) → Result (Unit {0}) Failure → Type 0
-AsmDone old new form None r = Prints (without_input old) new (AssembledTo old.input form) r
+AsmDone old new form None r = AssemblesTo (without_input old) new old.input form r
 AsmDone old new form (Some name) r = EndsWithoutFile old new name (not_opened name) r
     ⊎ ((bytes : List ℕ) × (map.get old.files name ≡ Some bytes)
-    × Prints (and_then old (opened name ∷ [])) new (AssembledTo bytes form) r)
+    × AssemblesTo (and_then old (opened name ∷ [])) new bytes form r)
 
 -- the replies go to the standard output, or to the file, which is created
 abbrev pub RepliesTo : Hosted → Hosted → List ℕ → Option (List ℕ) → Result (Unit {0}) Failure → Type 0

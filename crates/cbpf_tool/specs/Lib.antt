@@ -1,3 +1,5 @@
+pub mod SourceLine
+pub mod Hints
 pub mod LineWords
 pub mod Numbers
 pub mod Commands
@@ -24,3 +26,4 @@ pub mod RunJob
 pub mod Requests
 pub mod Remarks
 pub mod WhyJobs
+pub mod Exits

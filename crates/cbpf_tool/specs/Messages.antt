@@ -4,7 +4,7 @@ use Rattle.cbpf_text.specs.Messages.{fault_text}
 use Rattle.cbpf_why.specs.Messages.{filter_message, why_message}
 use Rattle.cbpf_why.specs.declared.job.WhyFault.TheVariants as why
 use Rattle.pcap_classic.specs.Messages.{header_message}
-use Rattle.cbpf_tool.specs.declared.failure.Failure.{Failure, TheVariants.Tool, TheVariants.CannotOpen}
+use Rattle.cbpf_tool.specs.declared.failure.Failure.{Failure, TheVariants.Tool, TheVariants.Source, TheVariants.CannotOpen}
 use Rattle.cbpf_tool.specs.declared.fault.ToolFault.{ToolFault}
 use Rattle.cbpf_tool.specs.declared.fault.ToolFault.TheVariants as tool
 use Rattle.cbpf_tool.specs.declared.host.CreateFault.{CreateFault}
@@ -27,12 +27,14 @@ create_message create.Memory = codes "out of memory"
 -- why a job failed; a file that can't be opened is named
 abbrev pub failure_message : Failure → List ℕ
 failure_message (Tool fault) = tool_message fault
+failure_message (Source fault hint) = fault_text fault
 failure_message (CannotOpen name) = create_message create.NotCreated ++ (codes " " ++ string_bytes name)
 
 -- why a request failed; the file whose read, filter or capture is at fault stands before
 abbrev pub why_failure_message : WhyFailure → List ℕ
 why_failure_message (failure.Job f) = failure_message f
 why_failure_message (failure.Read name) = string_bytes name ++ (codes ": " ++ tool_message tool.Read)
-why_failure_message (failure.Filter name fault) = string_bytes name ++ (codes ": " ++ filter_message fault)
+why_failure_message (failure.NoFilter name) = failure_message (CannotOpen name)
+why_failure_message (failure.Filter name fault hint) = string_bytes name ++ (codes ": " ++ filter_message fault)
 why_failure_message (failure.Capture name fault) = string_bytes name ++ (codes ": " ++ header_message fault)
 why_failure_message (failure.Input fault) = header_message fault

@@ -1,9 +1,9 @@
 -- What is said of a report on standard error: which packets the capture lacks of those that were asked for, and where it
 -- is cut (this project's own; the words for a cut are those of the command `load pcap`).
-use Rattle.std.specs.Prelude.{◌≡◌, ℕ, ◌==◌, Bool, true, false, ◌&&◌, if◌then◌else◌, List, [], ◌∷◌, ◌++◌, length, codes}
+use Rattle.std.specs.Prelude.{◌≡◌, ℕ, ◌==◌, ◌%◌, Bool, true, false, ◌&&◌, if◌then◌else◌, List, [], ◌∷◌, ◌++◌, length, codes}
 use Rattle.std.specs.Prelude.{decimal, Option, Some, None, is_some, string_bytes}
 use Rattle.std.specs.List.{flat_map, list_any}
-use Rattle.std.specs.Option.{option_map}
+use Rattle.std.specs.Option.{option_map, option_map_or}
 use Rattle.cbpf_code.specs.Text.{concat, with_number}
 use Rattle.cbpf_reply.specs.Loads.{cut_text}
 use Rattle.pcap_classic.specs.declared.ending.Ending.{Ending}
@@ -14,6 +14,7 @@ use Rattle.cbpf_why.specs.declared.job.CaptureEnd.{CaptureEnd}
 use Rattle.cbpf_why.specs.declared.report.Report.{Report}
 use Rattle.cbpf_why.specs.declared.report.Report.TheVariants.{Summary, Traces, Packets, Coverage, Graph}
 use Rattle.cbpf_tool.specs.declared.remarks.Remarks.{Remarks}
+use Rattle.cbpf_tool.specs.declared.remarks.TheConstants.{ETHERNET, LINK_TYPES}
 
 -- whether a report is the summary
 abbrev pub is_summary : Report → Bool
@@ -23,17 +24,18 @@ is_summary Packets = false
 is_summary Coverage = false
 is_summary Graph = false
 
--- the ending, where the report doesn't say it: the summary for which no range is given says where the capture is cut
-abbrev pub unsaid_ending : Report → List PacketRange → Ending → Option Ending
-unsaid_ending report ranges ending = if is_summary report && (length ranges == 0) then None else Some ending
+-- the summary for which no range is given says where the capture is cut
+abbrev pub report_says_ending : Remarks → Bool
+report_says_ending r = is_summary r.report && (length r.packets.items == 0)
 
--- what is to be said of a report on the capture of this name, which was read to this end
-pub record AreRemarks (report : Report) (ranges : List PacketRange) (name : Option (List ℕ)) (end : CaptureEnd)
-    (r : Remarks) : Type 0 where
+-- what is to be said of a report on the capture of this name and link type, which was read to this end, or wasn't
+pub record AreRemarks (report : Report) (ranges : List PacketRange) (name : Option (List ℕ)) (link : ℕ)
+    (end : Option CaptureEnd) (r : Remarks) : Type 0 where
   pub capture : option_map (λ n. string_bytes n) r.capture ≡ name
+  pub link_type : r.link ≡ link
+  pub kind : r.report ≡ report
   pub packets : r.packets.items ≡ ranges
-  pub count : r.count ≡ end.count
-  pub ending : r.ending ≡ unsaid_ending report ranges end.ending
+  pub ending : r.end ≡ end
 
 -- ---- the lines
 
@@ -41,6 +43,12 @@ pub record AreRemarks (report : Report) (ranges : List PacketRange) (name : Opti
 abbrev pub line_start : Option (List ℕ) → List ℕ
 line_start None = codes "cbpf: "
 line_start (Some name) = concat (codes "cbpf: " ∷ name ∷ codes ": " ∷ [])
+
+-- a link type other than Ethernet's; it has the lower 16 bits of the number in the file (pcap-savefile(5))
+abbrev pub link_line : Option (List ℕ) → ℕ → List ℕ
+link_line name link =
+    if link % LINK_TYPES == ETHERNET then []
+    else line_start name ++ with_number (codes "link type ") (link % LINK_TYPES) (codes ", not Ethernet\n")
 
 -- a number that the capture lacks, or the first and the last one
 abbrev pub lacking_text : PacketRange → List ℕ
@@ -54,22 +62,29 @@ lacking_line name None = []
 lacking_line name (Some range) = line_start name ++ lacking_text range
 
 -- where the capture is cut, if it is
-abbrev pub ending_line : Option (List ℕ) → ℕ → Option Ending → List ℕ
-ending_line name count None = []
-ending_line name count (Some Whole) = []
-ending_line name count (Some (CutHeader offset)) = line_start name ++ cut_text count (CutHeader offset)
-ending_line name count (Some (CutData offset)) = line_start name ++ cut_text count (CutData offset)
+abbrev pub ending_line : Option (List ℕ) → ℕ → Ending → List ℕ
+ending_line name count Whole = []
+ending_line name count (CutHeader offset) = line_start name ++ cut_text count (CutHeader offset)
+ending_line name count (CutData offset) = line_start name ++ cut_text count (CutData offset)
 
 -- the bytes of the capture's name, where it has one
 abbrev pub name_in : Remarks → Option (List ℕ)
 name_in r = option_map (λ n. string_bytes n) r.capture
 
--- a line for each range of which the capture lacks something, and then one where it is cut
+-- a line for each range of which the capture lacks something, and then one where it is cut and the report doesn't say so
+abbrev pub end_lines : Remarks → CaptureEnd → List ℕ
+end_lines r end =
+    flat_map (λ range. lacking_line (name_in r) (beyond end.count range)) r.packets.items
+    ++ (if report_says_ending r then [] else ending_line (name_in r) end.count end.ending)
+
+-- the line of the link type, and those of the end where it was read
 unfoldable pub remarks_text : Remarks → List ℕ
-remarks_text r =
-    flat_map (λ range. lacking_line (name_in r) (beyond r.count range)) r.packets.items
-    ++ ending_line (name_in r) r.count r.ending
+remarks_text r = link_line (name_in r) r.link ++ option_map_or (end_lines r) r.end []
+
+-- a capture of so many packets lacks one of some ranges
+abbrev pub lacks_any : List PacketRange → ℕ → Bool
+lacks_any ranges count = list_any (λ range. is_some (beyond count range)) ranges
 
 -- the capture lacks a packet that was asked for
 abbrev pub lacks_packets : Remarks → Bool
-lacks_packets r = list_any (λ range. is_some (beyond r.count range)) r.packets.items
+lacks_packets r = option_map_or (λ (end : CaptureEnd). lacks_any r.packets.items end.count) r.end false

@@ -26,10 +26,15 @@ abbrev pub as_request : Result (Unit {0}) Failure → Result (Option Remarks) Wh
 as_request (Ok x) = Ok None
 as_request (Err e) = Err (why_failure.Job e)
 
+-- the result of `why` as that of a request
+abbrev pub why_request : Result Remarks WhyFailure → Result (Option Remarks) WhyFailure
+why_request (Ok remarks) = Ok (Some remarks)
+why_request (Err e) = Err e
+
 -- a request was done: one of the two jobs, or `why`
 abbrev pub RequestDone : Hosted → Hosted → Request → Result (Option Remarks) WhyFailure → Type 0
 RequestDone old new (AJob job) r = (done : Result (Unit {0}) Failure) × JobDone old new job done × (r ≡ as_request done)
-RequestDone old new (Why job) r = WhyDone old new job r
+RequestDone old new (Why job) r = (done : Result Remarks WhyFailure) × WhyDone old new job done × (r ≡ why_request done)
 
 -- a request succeeded, and the capture has each packet that was asked for
 abbrev pub is_done : Result (Option Remarks) WhyFailure → Bool

@@ -19,6 +19,7 @@ use Rattle.cbpf_why.specs.declared.job.CaptureEnd.{CaptureEnd}
 use Rattle.cbpf_why.specs.declared.job.WhyFault.{WhyFault}
 use Rattle.cbpf_why.specs.declared.job.WhyFault.TheVariants as why_fault
 use Rattle.cbpf_why.specs.declared.report.Report.{Report}
+use Rattle.cbpf_tool.specs.Hints.{filter_hint}
 use Rattle.cbpf_tool.specs.Hosted.{Hosted, and_then, without_input, without_output, opened, not_opened, printed}
 use Rattle.cbpf_tool.specs.declared.failure.Failure.TheVariants.{Tool, CannotOpen}
 use Rattle.cbpf_tool.specs.declared.fault.ToolFault.{ToolFault}
@@ -46,24 +47,23 @@ IsReportFailure name why_fault.Read e = IsReadFailure name e
 IsReportFailure name why_fault.Write e = e ≡ failed Write
 IsReportFailure name why_fault.Memory e = e ≡ failed Memory
 
--- remarks are there where the capture was read to its end
-abbrev pub SaysOf : Report → List PacketRange → Option (List ℕ) → Option CaptureEnd → Option Remarks → Type 0
-SaysOf report ranges name None None = Unit {0}
-SaysOf report ranges name (Some end) (Some remarks) = AreRemarks report ranges name end remarks
-SaysOf report ranges name _ _ = ⊥
+-- the result of a report on the capture of this name and link type, as the result of the job: its remarks, or the
+-- failure for its fault
+abbrev pub IsReported : Report → List PacketRange → Option (List ℕ) → ℕ → Result (Option CaptureEnd) WhyFault
+    → Result Remarks WhyFailure → Type 0
+IsReported report ranges name link (Ok end) (Ok remarks) = AreRemarks report ranges name link end remarks
+IsReported report ranges name link (Err fault) (Err e) = IsReportFailure name fault e
+IsReported report ranges name link _ _ = ⊥
 
--- the result of a report on the capture of this name, as the result of the job: its remarks where the capture was read
--- to its end, none where it wasn't, or the failure for its fault
-abbrev pub IsReported : Report → List PacketRange → Option (List ℕ) → Result (Option CaptureEnd) WhyFault
-    → Result (Option Remarks) WhyFailure → Type 0
-IsReported report ranges name (Ok end) (Ok remarks) = SaysOf report ranges name end remarks
-IsReported report ranges name (Err fault) (Err e) = IsReportFailure name fault e
-IsReported report ranges name _ _ = ⊥
-
--- the failure is that the file of this name could not be opened
+-- the failure is that the capture of this name could not be opened
 abbrev pub IsUnopened : List ℕ → WhyFailure → Type 0
 IsUnopened name (failure.Job (CannotOpen n)) = string_bytes n ≡ name
 IsUnopened name _ = ⊥
+
+-- the failure is that the filter of this name could not be opened
+abbrev pub IsNoFile : List ℕ → WhyFailure → Type 0
+IsNoFile name (failure.NoFilter n) = string_bytes n ≡ name
+IsNoFile name _ = ⊥
 
 -- ---- the filter
 
@@ -71,22 +71,23 @@ IsUnopened name _ = ⊥
 -- or the program could not be read or held
 abbrev pub IsProgram : List ℕ → List ℕ → Result (List Insn) WhyFailure → Type 0
 IsProgram name text (Ok p) = IsFilter text p
-IsProgram name text (Err (failure.Filter n fault)) =
-    (string_bytes n ≡ name) × IsNoFilter text fault × (fault ≢ filter_fault.Memory)
+IsProgram name text (Err (failure.Filter n fault hint)) =
+    (string_bytes n ≡ name) × IsNoFilter text fault × (fault ≢ filter_fault.Memory) × (hint ≡ filter_hint text fault)
 IsProgram name text (Err (failure.Read n)) = string_bytes n ≡ name
 IsProgram name text (Err (failure.Job (Tool Memory))) = Unit {0}
 IsProgram name text (Err _) = ⊥
 
 -- the file of this name could not be opened: what `EndsWithoutFile` says of one, for the failures of `why`
-pub record NotOpened {X : Type 0} (old new : Hosted) (name : List ℕ) (r : Result X WhyFailure) : Type 0 where
+pub record NotOpened {X : Type 0} (Names : List ℕ → WhyFailure → Type 0) (old new : Hosted) (name : List ℕ)
+    (r : Result X WhyFailure) : Type 0 where
   pub failure : WhyFailure
   pub is_err : r ≡ Err failure
-  pub names : IsUnopened name failure
+  pub names : Names name failure
   pub event : new ≡ and_then old (not_opened name ∷ [])
 
 -- the file of the filter could not be opened; or it was opened, and `IsProgram` says what came of its text
 abbrev pub OpensFilter : Hosted → Hosted → List ℕ → Result (List Insn) WhyFailure → Type 0
-OpensFilter old new name r = NotOpened old new name r
+OpensFilter old new name r = NotOpened IsNoFile old new name r
     ⊎ ((text : List ℕ) × (map.get old.files name ≡ Some text) × (new ≡ and_then old (opened name ∷ []))
     × IsProgram name text r)
 
@@ -105,12 +106,12 @@ query_of p a = record { report = a.report; ranges = a.packets.items; machine = m
 -- a report on a capture is the one text that was printed, and its result is the job's; or there was no room for a
 -- buffer, and nothing was printed
 pub data PrintsReport (old new : Hosted) (q : Query) (name : Option (List ℕ)) (c : Savefile)
-    (r : Result (Option Remarks) WhyFailure) : Type 0 where
+    (r : Result Remarks WhyFailure) : Type 0 where
   no_room : new ≡ without_output old → r ≡ Err (failed Memory) → PrintsReport old new q name c r
   prints : (text : List ℕ) (count : ℕ) (done : Result (Option CaptureEnd) WhyFault)
       → new ≡ and_then (without_output old) (printed text ∷ [])
       → Reported q.report q.ranges q.machine c count (Some []) (Some text) done
-      → IsReported q.report q.ranges name done r → PrintsReport old new q name c r
+      → IsReported q.report q.ranges name c.link done r → PrintsReport old new q name c r
 
 -- the fault of a header, with the capture's name where it is a file
 abbrev pub IsHeaderFailure : Option (List ℕ) → HeaderFault → WhyFailure → Type 0
@@ -127,7 +128,7 @@ IsOpenFailure name (open_fault.Read read_fault.Memory) e = e ≡ failed Memory
 -- a report on the capture that has these bytes. Where their header is refused or could not be read, or there was no memory
 -- for it, nothing was printed, and the standard output was not asked for
 pub data ReportsOn (old new : Hosted) (q : Query) (name : Option (List ℕ)) (bytes : List ℕ)
-    (r : Result (Option Remarks) WhyFailure) : Type 0 where
+    (r : Result Remarks WhyFailure) : Type 0 where
   unread : (e : WhyFailure) → new ≡ old → IsReadFailure name e ⊎ (e ≡ failed Memory) → r ≡ Err e
       → ReportsOn old new q name bytes r
   no_capture : (fault : HeaderFault) (e : WhyFailure) → new ≡ old → IsHeaderRefusal fault bytes
@@ -139,9 +140,9 @@ abbrev pub file_name : Option (List ℕ) → Option (List ℕ)
 file_name name = option_and_then (λ n. if bytes_eq n (codes "-") then None else Some n) name
 
 -- a report on the standard input, or on the file of this name, which is opened first
-abbrev pub ReportsBy : Hosted → Hosted → Query → Option (List ℕ) → Result (Option Remarks) WhyFailure → Type 0
+abbrev pub ReportsBy : Hosted → Hosted → Query → Option (List ℕ) → Result Remarks WhyFailure → Type 0
 ReportsBy old new q None r = ReportsOn (without_input old) new q None old.input r
-ReportsBy old new q (Some name) r = NotOpened old new name r
+ReportsBy old new q (Some name) r = NotOpened IsUnopened old new name r
     ⊎ ((bytes : List ℕ) × (map.get old.files name ≡ Some bytes)
     × ReportsOn (and_then old (opened name ∷ [])) new q (Some name) bytes r)
 
@@ -149,7 +150,7 @@ ReportsBy old new q (Some name) r = NotOpened old new name r
 
 -- `why`: the file of the filter is opened first; where it gives no program, that is all, and else the capture is reported
 -- on
-pub record WhyDone (old new : Hosted) (job : WhyJob) (r : Result (Option Remarks) WhyFailure) : Type 0 where
+pub record WhyDone (old new : Hosted) (job : WhyJob) (r : Result Remarks WhyFailure) : Type 0 where
   pub mid : Hosted
   pub filter : Result (List Insn) WhyFailure
   pub opens : OpensFilter old mid (string_bytes job.filter) filter

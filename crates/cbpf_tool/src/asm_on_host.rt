@@ -2,16 +2,32 @@
 
 ghost use Rattle.std.specs.Prelude.{◌≡◌, ℕ, List, [], Some, string_bytes};
 ghost use Rattle.std.specs.Option.{option_map};
-ghost use Rattle.cbpf_tool.specs.Hosted.{IsReady, printed, without_output};
-ghost use Rattle.cbpf_tool.specs.Jobs.{AsmDone, AssembledTo, RanOnce};
+ghost use Rattle.cbpf_tool.specs.Hosted.{IsReady};
+ghost use Rattle.cbpf_tool.specs.Jobs.{AsmDone, AssemblesTo, IsAssembled};
 
-use crate::assembler::asm;
-use crate::failure::{Failure, tooled};
+use crate::assembler::{assemble_into, read_source};
+use crate::failure::{Failure, assembled};
 use crate::fault::ToolFault;
 use crate::host::Host;
 use cbpf_code::Form;
 use std::alloc::Allocator;
-use std::io::Read;
+use std::io::{Read, Write};
+
+/// Assembles what a reader gives, and shows the line of the source's fault.
+fn assemble_shown<A: Allocator, I: Read, W: Write>(
+    alloc: A,
+    reader: &mut I,
+    writer: &mut W,
+    form: Form,
+) -> Result<(), Failure>
+    ensures { (source : List ℕ) → I.remaining reader.old ≡ Some source →
+        IsAssembled source form (W.contents writer.old) (W.contents writer.new) result }
+{
+    match read_source(&alloc, reader) {
+        Ok(source) => assembled(&source, assemble_into(&alloc, &source, writer, form)),
+        Err(fault) => Err(Failure::Tool(fault)),
+    }
+}
 
 /// Assembles what a reader gives to the standard output.
 fn assemble_from<A: Allocator, H: Host, I: Read>(
@@ -19,14 +35,14 @@ fn assemble_from<A: Allocator, H: Host, I: Read>(
     host: &mut H,
     reader: &mut I,
     form: Form,
-) -> Result<(), ToolFault>
+) -> Result<(), Failure>
     ensures { IsReady (H.view host.old) → (source : List ℕ) → I.remaining reader.old ≡ Some source →
-        RanOnce (without_output (H.view host.old)) (H.view host.new) printed (AssembledTo source form) result }
+        AssemblesTo (H.view host.old) (H.view host.new) source form result }
 {
     let Ok(mut writer) = host.output() else {
-        return Err(ToolFault::Memory);
+        return Err(Failure::Tool(ToolFault::Memory));
     };
-    let done = asm(alloc, reader, &mut writer, form);
+    let done = assemble_shown(alloc, reader, &mut writer, form);
     host.print(writer);
     done
 }
@@ -44,12 +60,12 @@ pub fn asm_job<A: Allocator, H: Host>(
     match file {
         None => {
             let mut input = host.input();
-            tooled(assemble_from(alloc, host, &mut input, form))
+            assemble_from(alloc, host, &mut input, form)
         }
         Some(name) => match host.open(name.as_str()) {
             Ok(source) => {
                 let mut source = source;
-                tooled(assemble_from(alloc, host, &mut source, form))
+                assemble_from(alloc, host, &mut source, form)
             }
             Err(_) => Err(Failure::CannotOpen(name)),
         },

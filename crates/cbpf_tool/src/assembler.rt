@@ -67,7 +67,7 @@ fn write_and_flush<W: Write>(w: &mut W, list: &[Insn], form: Form) -> Result<(),
 
 /// Writes the instructions of a source.
 #[tactic(auto, using(crate::proofs::AssemblyLemmas::asm_answers))]
-fn assemble_into<A: Allocator + Copy, W: Write>(
+pub(crate) fn assemble_into<A: Allocator + Copy, W: Write>(
     alloc: A,
     source: &[u8],
     writer: &mut W,

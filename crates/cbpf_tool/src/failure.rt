@@ -4,7 +4,9 @@ ghost use Rattle.std.specs.Prelude.{◌≡◌};
 ghost use Rattle.cbpf_tool.specs.Jobs as spec;
 
 use crate::fault::ToolFault;
+use crate::hints::{Hint, source_hint};
 use crate::host::CreateFault;
+use cbpf_text::AsmFault;
 use std::error::Error;
 use std::fmt;
 
@@ -13,6 +15,8 @@ use std::fmt;
 pub enum Failure {
     /// A tool ended before its end.
     Tool(ToolFault),
+    /// The source is refused, whose line of the fault is shown so.
+    Source(AsmFault, Hint),
     /// The file of this name could not be opened, or created.
     CannotOpen(String),
 }
@@ -26,6 +30,7 @@ impl fmt::Display for Failure {
     fn fmt<W: fmt::Write>(&self, f: &mut fmt::Formatter<W>) -> fmt::Result {
         match self {
             Failure::Tool(fault) => fmt::Display::fmt(fault, f),
+            Failure::Source(fault, _) => fmt::Display::fmt(fault, f),
             Failure::CannotOpen(name) => write!(f, "{} {name}", CreateFault::NotCreated),
         }
     }
@@ -39,6 +44,17 @@ pub(crate) fn tooled(done: Result<(), ToolFault>) -> Result<(), Failure>
 {
     match done {
         Ok(()) => Ok(()),
+        Err(fault) => Err(Failure::Tool(fault)),
+    }
+}
+
+/// The result of the assembler over a source as that of a job.
+pub(crate) fn assembled(source: &[u8], done: Result<(), ToolFault>) -> Result<(), Failure>
+    ensures { result ≡ spec.assembled source.now done }
+{
+    match done {
+        Ok(()) => Ok(()),
+        Err(ToolFault::Source(fault)) => Err(Failure::Source(fault, source_hint(source, fault))),
         Err(fault) => Err(Failure::Tool(fault)),
     }
 }

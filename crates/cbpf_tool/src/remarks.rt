@@ -7,24 +7,30 @@ ghost use Rattle.cbpf_code.specs.Writing.{Wrote};
 ghost use Rattle.cbpf_why.specs.Chosen.{beyond};
 ghost use Rattle.cbpf_tool.specs.Remarks as spec;
 
-use crate::report_asked::ReportAsked;
-use cbpf_code::{Line, WriteFault, write_bytes, write_parts};
+use cbpf_code::{Line, WriteFault, write_bytes, write_parts, write_with_number};
 use cbpf_reply::write_cut;
 use cbpf_why::{CaptureEnd, PacketRange, Report};
 use pcap_classic::Ending;
 use std::io::Write;
 
-/// What is to be said of a report that is whole, where the capture's end was read.
+/// The link type of Ethernet.
+const ETHERNET: u32 = 1;
+
+/// A file has its link type in the lower 16 bits of a number. Others say whether its packets end with a check sequence.
+const LINK_TYPES: u32 = 65_536;
+
+/// What is to be said of a report that is whole.
 #[derive(Debug, Drop)]
 pub struct Remarks {
     /// The name of the capture's file; without one it is the standard input.
     pub capture: Option<String>,
-    /// Which packets were asked for.
+    /// The link type of the capture, as it stands in the file.
+    pub link: u32,
+    pub report: Report,
+    /// Which packets were asked for; where the list is empty, it is all.
     pub packets: Vec<PacketRange>,
-    /// How many packets the capture has.
-    pub count: u64,
-    /// How it ends, where the report doesn't say it.
-    pub ending: Option<Ending>,
+    /// How the capture ends, where its end was read.
+    pub end: Option<CaptureEnd>,
 }
 
 impl Remarks {
@@ -32,37 +38,30 @@ impl Remarks {
     pub fn lacks_packets(&self) -> bool
         ensures { result ≡ spec.lacks_packets self.now }
     {
-        for range in &self.packets {
-            if range.beyond(self.count).is_some() {
-                return true;
-            }
+        match self.end {
+            Some(end) => lacks_any(self.packets.as_slice(), end.count),
+            None => false,
         }
-        false
+    }
+
+    /// Whether the report itself says how the capture ends.
+    fn report_says_ending(&self) -> bool
+        ensures { result ≡ spec.report_says_ending self.now }
+    {
+        matches!(self.report, Report::Summary) && self.packets.is_empty()
     }
 }
 
-/// How a capture ends, where the report doesn't say it.
-fn unsaid_ending(asked: &ReportAsked, ending: Ending) -> Option<Ending>
-    ensures { result ≡ spec.unsaid_ending asked.now.report asked.now.packets.items ending }
+/// Whether a capture of so many packets lacks one of some ranges.
+fn lacks_any(ranges: &[PacketRange], count: u64) -> bool
+    ensures { result ≡ spec.lacks_any ranges.now count }
 {
-    if matches!(asked.report, Report::Summary) && asked.packets.is_empty() {
-        None
-    } else {
-        Some(ending)
+    for range in ranges {
+        if range.beyond(count).is_some() {
+            return true;
+        }
     }
-}
-
-/// What is to be said of a report on the capture of this name, which was read to this end.
-pub(crate) fn remarks_of(asked: ReportAsked, name: Option<String>, end: CaptureEnd) -> Remarks
-    ensures { spec.AreRemarks asked.report asked.packets.items (option_map (λ n. string_bytes n) name) end result }
-{
-    let ending = unsaid_ending(&asked, end.ending);
-    Remarks {
-        capture: name,
-        packets: asked.packets,
-        count: end.count,
-        ending,
-    }
+    false
 }
 
 /// Writes what a line begins with.
@@ -74,6 +73,24 @@ fn write_start<W: Write>(w: &mut W, capture: &Option<String>) -> Result<(), Writ
         Some(name) => write_parts(w, &[b"cbpf: ", name.as_str().as_bytes(), b": "]),
         None => write_bytes(w, b"cbpf: "),
     }
+}
+
+/// Writes a line for a link type that is not Ethernet's.
+#[tactic(auto, using(cbpf_code::proofs::WrittenLemmas::three, cbpf_code::proofs::WrittenLemmas::steps))]
+fn write_link_line<W: Write>(
+    w: &mut W,
+    capture: &Option<String>,
+    link: u32,
+) -> Result<(), WriteFault>
+    ensures { Wrote (W.contents w.old) (W.contents w.new) result
+        (spec.link_line (option_map (λ n. string_bytes n) capture.now) link) }
+{
+    let link = link % LINK_TYPES;
+    if link == ETHERNET {
+        return Ok(());
+    }
+    write_start(w, capture)?;
+    write_with_number(w, b"link type ", u64::from(link), b", not Ethernet\n")
 }
 
 /// Writes which packets are lacking.
@@ -116,18 +133,16 @@ fn write_ending_line<W: Write>(
     w: &mut W,
     capture: &Option<String>,
     count: u64,
-    ending: Option<Ending>,
+    ending: Ending,
 ) -> Result<(), WriteFault>
     ensures { Wrote (W.contents w.old) (W.contents w.new) result
         (spec.ending_line (option_map (λ n. string_bytes n) capture.now) count ending) }
 {
-    match ending {
-        None | Some(Ending::Whole) => Ok(()),
-        Some(ending) => {
-            write_start(w, capture)?;
-            write_cut(w, count, ending)
-        }
+    if ending == Ending::Whole {
+        return Ok(());
     }
+    write_start(w, capture)?;
+    write_cut(w, count, ending)
 }
 
 /// Writes a line for each range of which a capture of so many packets lacks some.
@@ -148,9 +163,26 @@ fn write_lacking_lines<W: Write>(
     Ok(())
 }
 
-/// Writes what is to be said of a report: a line for each range of packets of which the capture lacks something, in the
-/// ranges' order, and then a line that says where the capture is cut, if it is. Each line begins with `cbpf: `. The name of
-/// the capture's file follows, where the capture has one.
+/// Writes what the end of a capture shows: what it lacks, and where it is cut.
+#[tactic(auto, using(cbpf_code::proofs::WrittenLemmas::three, cbpf_code::proofs::WrittenLemmas::steps))]
+fn write_end_lines<W: Write>(
+    w: &mut W,
+    remarks: &Remarks,
+    end: CaptureEnd,
+) -> Result<(), WriteFault>
+    ensures { Wrote (W.contents w.old) (W.contents w.new) result (spec.end_lines remarks.now end) }
+{
+    write_lacking_lines(w, &remarks.capture, remarks.packets.as_slice(), end.count)?;
+    if remarks.report_says_ending() {
+        return Ok(());
+    }
+    write_ending_line(w, &remarks.capture, end.count, end.ending)
+}
+
+/// Writes what is to be said of a report: a line for a link type that is not Ethernet's, and, where the capture's end was
+/// read, a line for each range of packets of which the capture lacks something, in the ranges' order, and a line that says
+/// where the capture is cut, if it is and the report doesn't say so. Each line begins with `cbpf: `. The name of the
+/// capture's file follows, where the capture has one.
 ///
 /// # Errors
 ///
@@ -159,11 +191,9 @@ fn write_lacking_lines<W: Write>(
 pub fn write_remarks<W: Write>(w: &mut W, remarks: &Remarks) -> Result<(), WriteFault>
     ensures { Wrote (W.contents w.old) (W.contents w.new) result (spec.remarks_text remarks.now) }
 {
-    write_lacking_lines(
-        w,
-        &remarks.capture,
-        remarks.packets.as_slice(),
-        remarks.count,
-    )?;
-    write_ending_line(w, &remarks.capture, remarks.count, remarks.ending)
+    write_link_line(w, &remarks.capture, remarks.link)?;
+    match remarks.end {
+        Some(end) => write_end_lines(w, remarks, end),
+        None => Ok(()),
+    }
 }

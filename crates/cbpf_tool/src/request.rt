@@ -35,7 +35,7 @@ pub enum Request {
 }
 
 /// Where the first byte of a kind stands.
-fn position_of(word: &[u8], sign: u8) -> Option<usize>
+pub(crate) fn position_of(word: &[u8], sign: u8) -> Option<usize>
     ensures first { result ≡ position (λ b. b == sign) word.now }
     ensures inside { IfSome result (λ i. i < length word.now) }
 {

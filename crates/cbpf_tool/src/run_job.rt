@@ -37,8 +37,14 @@ fn as_request(done: Result<(), Failure>) -> Result<Option<Remarks>, WhyFailure>
     }
 }
 
-/// Runs what a command line asks for on a machine. The answer is what is to be said of a report of `why`, where the
-/// capture's end was read.
+/// The result of `why` as that of a request.
+fn remarked(done: Result<Remarks, WhyFailure>) -> Result<Option<Remarks>, WhyFailure>
+    ensures { result ≡ spec.why_request done }
+{
+    Ok(Some(done?))
+}
+
+/// Runs what a command line asks for on a machine. The answer is what is to be said of a report of `why`.
 pub fn run_request<A: Allocator + Copy, H: Host>(
     alloc: A,
     host: &mut H,
@@ -48,7 +54,7 @@ pub fn run_request<A: Allocator + Copy, H: Host>(
 {
     match request {
         Request::Job(job) => as_request(run_on(alloc, host, job)),
-        Request::Why(job) => why_job(alloc, host, job),
+        Request::Why(job) => remarked(why_job(alloc, host, job)),
     }
 }
 

@@ -6,7 +6,9 @@ ghost use Rattle.cbpf_tool.specs.WhyJobs as spec;
 
 use crate::failure::Failure;
 use crate::fault::ToolFault;
-use crate::remarks::{Remarks, remarks_of};
+use crate::hints::Hint;
+use crate::host::CreateFault;
+use crate::remarks::Remarks;
 use crate::report_asked::ReportAsked;
 use cbpf_why::{CaptureEnd, FilterFault, WhyFault};
 use pcap_classic::HeaderFault;
@@ -20,8 +22,10 @@ pub enum WhyFailure {
     Job(Failure),
     /// The file of this name could not be read.
     Read(String),
-    /// The filter of this name is refused.
-    Filter(String, FilterFault),
+    /// The filter of this name could not be opened.
+    NoFilter(String),
+    /// The filter of this name is refused, with what is said of it on the next line.
+    Filter(String, FilterFault, Hint),
     /// The capture of this name is none.
     Capture(String, HeaderFault),
     /// The standard input holds no capture.
@@ -39,7 +43,8 @@ impl fmt::Display for WhyFailure {
         match self {
             WhyFailure::Job(failure) => fmt::Display::fmt(failure, f),
             WhyFailure::Read(name) => write!(f, "{name}: {}", ToolFault::Read),
-            WhyFailure::Filter(name, fault) => write!(f, "{name}: {fault}"),
+            WhyFailure::NoFilter(name) => write!(f, "{} {name}", CreateFault::NotCreated),
+            WhyFailure::Filter(name, fault, _) => write!(f, "{name}: {fault}"),
             WhyFailure::Capture(name, fault) => write!(f, "{name}: {fault}"),
             WhyFailure::Input(fault) => fmt::Display::fmt(fault, f),
         }
@@ -76,23 +81,23 @@ fn report_failure(fault: WhyFault, name: Option<String>) -> WhyFailure
     }
 }
 
-/// What is to be said of a report on the capture of this name, where it was read to its end.
-fn said_of(asked: ReportAsked, end: Option<CaptureEnd>, name: Option<String>) -> Option<Remarks>
-    ensures { spec.SaysOf asked.report asked.packets.items (option_map (λ n. string_bytes n) name) end result }
-{
-    Some(remarks_of(asked, name, end?))
-}
-
-/// The end of a report on the capture of this name as that of the job.
+/// The end of a report on the capture of this name and link type as that of the job.
 pub(crate) fn reported(
     done: Result<Option<CaptureEnd>, WhyFault>,
     asked: ReportAsked,
     name: Option<String>,
-) -> Result<Option<Remarks>, WhyFailure>
-    ensures { spec.IsReported asked.report asked.packets.items (option_map (λ n. string_bytes n) name) done result }
+    link: u32,
+) -> Result<Remarks, WhyFailure>
+    ensures { spec.IsReported asked.report asked.packets.items (option_map (λ n. string_bytes n) name) link done result }
 {
     match done {
-        Ok(end) => Ok(said_of(asked, end, name)),
+        Ok(end) => Ok(Remarks {
+            capture: name,
+            link,
+            report: asked.report,
+            packets: asked.packets,
+            end,
+        }),
         Err(fault) => Err(report_failure(fault, name)),
     }
 }

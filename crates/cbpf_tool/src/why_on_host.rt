@@ -10,6 +10,7 @@ ghost use Rattle.cbpf_tool.specs.WhyJobs as spec;
 use crate::assembler::read_source;
 use crate::failure::Failure;
 use crate::fault::ToolFault;
+use crate::hints::filter_hint;
 use crate::host::Host;
 use crate::remarks::Remarks;
 use crate::report_asked::ReportAsked;
@@ -29,15 +30,18 @@ fn read_filter<A: Allocator + Copy, R: Read>(
 ) -> Result<Program<A>, WhyFailure>
     ensures { (text : List ℕ) → R.remaining reader.old ≡ Some text → spec.IsProgram (string_bytes name) text result }
 {
-    let text = match read_source(alloc, reader) {
+    let mut text = match read_source(alloc, reader) {
         Ok(text) => text,
         Err(ToolFault::Read) => return Err(WhyFailure::Read(name)),
         Err(fault) => return Err(failed(fault)),
     };
-    match program_of(alloc, text) {
+    match program_of(alloc, text.as_mut_slice()) {
         Ok(program) => Ok(program),
         Err(FilterFault::Memory) => Err(failed(ToolFault::Memory)),
-        Err(fault) => Err(WhyFailure::Filter(name, fault)),
+        Err(fault) => {
+            let hint = filter_hint(&text, fault);
+            Err(WhyFailure::Filter(name, fault, hint))
+        }
     }
 }
 
@@ -55,7 +59,7 @@ fn open_filter<A: Allocator + Copy, H: Host>(
             let mut source = source;
             read_filter(alloc, &mut source, name)
         }
-        Err(_) => Err(WhyFailure::Job(Failure::CannotOpen(name))),
+        Err(_) => Err(WhyFailure::NoFilter(name)),
     }
 }
 
@@ -81,7 +85,7 @@ fn print_report<A: Allocator + Copy, P: Allocator, H: Host, R: Read>(
     asked: ReportAsked,
     reader: &mut CaptureReader<R, A>,
     name: Option<String>,
-) -> Result<Option<Remarks>, WhyFailure>
+) -> Result<Remarks, WhyFailure>
     requires count { reader.old.count ≡ 0 }
     ensures report { IsReady (H.view host.old) → (c : Savefile) → reader.old.left ≡ Some c →
         spec.PrintsReport (H.view host.old) (H.view host.new) (spec.query_of program.now asked)
@@ -97,9 +101,10 @@ fn print_report<A: Allocator + Copy, P: Allocator, H: Host, R: Read>(
         report: asked.report,
         packets: &asked.packets,
     };
+    let link = reader.link();
     let done = why(alloc, &question, reader, &mut writer);
     host.print(writer);
-    reported(done, asked, name)
+    reported(done, asked, name, link)
 }
 
 /// Writes a report on the capture that a reader gives.
@@ -110,7 +115,7 @@ fn report_on<A: Allocator + Copy, P: Allocator, H: Host, R: Read + Drop>(
     asked: ReportAsked,
     reader: R,
     name: Option<String>,
-) -> Result<Option<Remarks>, WhyFailure>
+) -> Result<Remarks, WhyFailure>
     ensures { IsReady (H.view host.old) → (bytes : List ℕ) → R.remaining reader ≡ Some bytes →
         spec.ReportsOn (H.view host.old) (H.view host.new) (spec.query_of program.now asked)
         (option_map (λ n. string_bytes n) name) bytes result }
@@ -130,7 +135,7 @@ fn report_on_input<A: Allocator + Copy, P: Allocator, H: Host>(
     host: &mut H,
     program: &Program<P>,
     asked: ReportAsked,
-) -> Result<Option<Remarks>, WhyFailure>
+) -> Result<Remarks, WhyFailure>
     ensures { IsReady (H.view host.old) →
         spec.ReportsBy (H.view host.old) (H.view host.new) (spec.query_of program.now asked) None result }
 {
@@ -145,7 +150,7 @@ fn report_on_file<A: Allocator + Copy, P: Allocator, H: Host>(
     program: &Program<P>,
     asked: ReportAsked,
     name: String,
-) -> Result<Option<Remarks>, WhyFailure>
+) -> Result<Remarks, WhyFailure>
     ensures { IsReady (H.view host.old) → spec.ReportsBy (H.view host.old) (H.view host.new)
         (spec.query_of program.now asked) (Some (string_bytes name)) result }
 {
@@ -175,7 +180,7 @@ fn report_by_name<A: Allocator + Copy, P: Allocator, H: Host>(
     program: &Program<P>,
     asked: ReportAsked,
     capture: Option<String>,
-) -> Result<Option<Remarks>, WhyFailure>
+) -> Result<Remarks, WhyFailure>
     ensures { IsReady (H.view host.old) → spec.ReportsBy (H.view host.old) (H.view host.new)
         (spec.query_of program.now asked) (spec.file_name (option_map (λ n. string_bytes n) capture)) result }
 {
@@ -186,8 +191,7 @@ fn report_by_name<A: Allocator + Copy, P: Allocator, H: Host>(
 }
 
 /// `why`: reports on a filter and a capture to the standard output. The filter's file is opened and read first, and
-/// nothing is printed before the capture's header was read. The answer is what is to be said of the report, where the
-/// capture's end was read.
+/// nothing is printed before the capture's header was read. The answer is what is to be said of the report.
 ///
 /// # Errors
 ///
@@ -198,7 +202,7 @@ pub fn why_job<A: Allocator + Copy, H: Host>(
     alloc: A,
     host: &mut H,
     job: WhyJob,
-) -> Result<Option<Remarks>, WhyFailure>
+) -> Result<Remarks, WhyFailure>
     ensures { IsReady (H.view host.old) → spec.WhyDone (H.view host.old) (H.view host.new) job result }
 {
     let program = open_filter(alloc, host, job.filter)?;

@@ -1,6 +1,6 @@
 //! Programs by the text of a filter.
 
-ghost use Rattle.std.specs.Prelude.{◌≡◌, IfOk, IfErr};
+ghost use Rattle.std.specs.Prelude.{◌≡◌, IfOk, IfErr, false};
 ghost use Rattle.cbpf_code.specs.WordText.{Spells};
 ghost use Rattle.cbpf_text.specs.Assembled.{Assembles};
 ghost use Rattle.cbpf_why.specs.Filters as spec;
@@ -101,31 +101,33 @@ fn source_list<A: Allocator + Copy>(alloc: A, text: &[u8]) -> Result<Vec<Insn, A
 
 /// The instructions that a text has.
 #[tactic(auto, using(crate::proofs::FilterLemmas::filters))]
-fn list_of<A: Allocator + Copy>(alloc: A, text: Vec<u8, A>) -> Result<Vec<Insn, A>, FilterFault>
-    ensures ok { IfOk result (λ list. spec.Reads text.items list.items) }
-    ensures fault { IfErr result (spec.IsNoFilter text.items) }
+fn list_of<A: Allocator + Copy>(alloc: A, text: &mut [u8]) -> Result<Vec<Insn, A>, FilterFault>
+    ensures ok { IfOk result (λ list. spec.Reads text.old list.items) }
+    ensures fault { IfErr result (spec.IsNoFilter text.old) }
+    ensures kept { spec.are_words text.old ≡ false → text.new ≡ text.old }
 {
-    let mut text = text;
-    if are_words(&text) {
-        put_commas(text.as_mut_slice());
-        words_list(alloc, &text)
+    if are_words(text) {
+        put_commas(text);
+        words_list(alloc, text)
     } else {
-        source_list(alloc, &text)
+        source_list(alloc, text)
     }
 }
 
 /// The program that a filter's text is: words where its first byte that is no blank is a digit, else a source of the
-/// assembler. Words are word text, or what `tcpdump -ddd` prints: in a text without a comma each newline stands for one.
+/// assembler. Words are word text, or what `tcpdump -ddd` prints: in a text without a comma each newline stands for one,
+/// and becomes one. The text of a source stays as it is.
 ///
 /// # Errors
 ///
 /// `Source`, `Words` or `Check` with why the text is no program; `Memory` where the allocator refused.
 pub fn program_of<A: Allocator + Copy>(
     alloc: A,
-    text: Vec<u8, A>,
+    text: &mut [u8],
 ) -> Result<Program<A>, FilterFault>
-    ensures program { IfOk result (λ p. spec.IsFilter text.items p) }
-    ensures refused { IfErr result (spec.IsNoFilter text.items) }
+    ensures program { IfOk result (λ p. spec.IsFilter text.old p) }
+    ensures refused { IfErr result (spec.IsNoFilter text.old) }
+    ensures kept { spec.are_words text.old ≡ false → text.new ≡ text.old }
 {
     let list = list_of(alloc, text)?;
     match Program::new(list) {

@@ -97,8 +97,8 @@ fn is_capture_refused<A: Allocator + Copy>(rt: &impl Abort, alloc: A, bytes: &[u
 }
 
 fn is_filter_refused<A: Allocator + Copy>(rt: &impl Abort, alloc: A, text: &[u8]) -> bool {
-    let text = Vec::from_slice(alloc, text).expect(rt, "the text");
-    cbpf_why::program_of(alloc, text).is_err()
+    let mut text = Vec::from_slice(alloc, text).expect(rt, "the text");
+    cbpf_why::program_of(alloc, text.as_mut_slice()).is_err()
 }
 
 fn is_refused<A: Allocator + Copy>(rt: &impl Abort, alloc: A, call: Call) -> bool {

@@ -218,7 +218,11 @@ fn finds_none_for_stops<A: Allocator + Copy>(rt: &impl Test, alloc: A, breakpoin
 
 fn finds_none_for_a_filter<A: Allocator + Copy>(alloc: A, text: &[u8]) -> bool {
     match Vec::from_slice(alloc, text) {
-        Ok(text) => matches!(cbpf_why::program_of(alloc, text), Err(FilterFault::Memory)),
+        Ok(text) => {
+            let mut text = text;
+            let program = cbpf_why::program_of(alloc, text.as_mut_slice());
+            matches!(program, Err(FilterFault::Memory))
+        }
         Err(_) => true,
     }
 }

@@ -22,8 +22,10 @@ pub fn report_in<A: Allocator + Copy, R: Read, B: Allocator, W: Write>(
     requires count { reader.old.count ≡ 0 }
     requires sorted { AreSorted packets.now }
 {
-    let text = Vec::from_slice(rt.alloc(), ARP).expect(rt, "memory");
-    let program = program_of(rt.alloc(), text).ok().expect(rt, "a filter");
+    let mut text = Vec::from_slice(rt.alloc(), ARP).expect(rt, "memory");
+    let program = program_of(rt.alloc(), text.as_mut_slice())
+        .ok()
+        .expect(rt, "a filter");
     let question = Question {
         program: &program,
         values: &Values::new(),

@@ -33,7 +33,8 @@ fn print_numbers<R: Env + Files + Print + AllocGlobal>(rt: &R) -> Result<(), Fau
     let (Some(filter), Some(file)) = (words.next(), words.next()) else {
         return Err(Fault::Usage);
     };
-    let program = program_of(alloc, fs::read(rt, filter.as_str())?)?;
+    let mut text = fs::read(rt, filter.as_str())?;
+    let program = program_of(alloc, text.as_mut_slice())?;
     let capture = Capture::new(alloc, fs::read(rt, file.as_str())?)?;
     for number in passing(alloc, &program, &capture)?.iter() {
         println!(rt; "{number}")?;

@@ -24,8 +24,8 @@ static ARP_TEXTS: [&[u8]; 12] = [
 ];
 
 fn filter_of(rt: &impl Test, text: &[u8]) -> Result<cbpf_code::Program, FilterFault> {
-    let text = Vec::from_slice(rt.alloc(), text).expect(rt, "memory");
-    cbpf_why::program_of(rt.alloc(), text)
+    let mut text = Vec::from_slice(rt.alloc(), text).expect(rt, "memory");
+    cbpf_why::program_of(rt.alloc(), text.as_mut_slice())
 }
 
 #[test]

@@ -1,0 +1,111 @@
+-- What the program does with the words of its command line, what it says on standard error, and the status with which it
+-- ends (this project's own).
+use Rattle.std.specs.Prelude.{◌≡◌, ◌⊎◌, ◌++◌, ℕ, List, [], ◌∷◌, Some, None, Result, Ok, Err, codes}
+use Rattle.std.specs.Prelude.{string_bytes}
+use Rattle.cbpf_code.specs.Writing.{AppendedPart}
+use Rattle.cbpf_command_line.specs.CommandLine.{IsFaultOf}
+use Rattle.cbpf_command_line.specs.RequestLine.{requested_for}
+use Rattle.cbpf_command_line.specs.declared.job.LineFault.{LineFault}
+use Rattle.cbpf_command_line.specs.declared.job.LineFault.TheVariants as line
+use Rattle.pcap_classic.specs.Messages.{header_message}
+use Rattle.pcap_classic.specs.declared.header.HeaderFault.{HeaderFault}
+use Rattle.cbpf_tool.specs.Hints.{no_filter_hint, capture_hint}
+use Rattle.cbpf_tool.specs.Hosted.{Hosted, and_then, without_output, printed}
+use Rattle.cbpf_tool.specs.Messages.{failure_message, why_failure_message}
+use Rattle.cbpf_tool.specs.Remarks.{remarks_text}
+use Rattle.cbpf_tool.specs.Requests.{IsRequest, line_faults}
+use Rattle.cbpf_tool.specs.RunJob.{RequestDone, request_status}
+use Rattle.cbpf_tool.specs.WhyJobs.{failed}
+use Rattle.cbpf_tool.specs.declared.exit.Exit.{Exit}
+use Rattle.cbpf_tool.specs.declared.exit.Exit.TheVariants.{Request, Refused, NotUtf8}
+use Rattle.cbpf_tool.specs.declared.failure.Failure.TheVariants as job
+use Rattle.cbpf_tool.specs.declared.failure.Failure.{Failure}
+use Rattle.cbpf_tool.specs.declared.fault.ToolFault.{ToolFault}
+use Rattle.cbpf_tool.specs.declared.fault.ToolFault.TheVariants.{Write, Memory}
+use Rattle.cbpf_tool.specs.declared.request.Request.{Request as ARequest}
+use Rattle.cbpf_tool.specs.declared.why_failure.WhyFailure.{WhyFailure}
+use Rattle.cbpf_tool.specs.declared.why_failure.WhyFailure.TheVariants as failure
+
+-- the line below that of a job's failure: the line of a source that is refused
+abbrev pub job_hint : Failure → List ℕ
+job_hint (job.Tool fault) = []
+job_hint (job.Source fault hint) = hint
+job_hint (job.CannotOpen name) = []
+
+-- the line below that of a failure: the line of a source, or what to do
+abbrev pub failure_hint : WhyFailure → List ℕ
+failure_hint (failure.Job f) = job_hint f
+failure_hint (failure.Read name) = []
+failure_hint (failure.NoFilter name) = no_filter_hint
+failure_hint (failure.Filter name fault hint) = hint
+failure_hint (failure.Capture name fault) = capture_hint fault
+failure_hint (failure.Input fault) = capture_hint fault
+
+-- a message as the end of a line
+abbrev pub with_newline : List ℕ → List ℕ
+with_newline message = message ++ codes "\n"
+
+-- what is wrong with a file, after its name
+abbrev pub named : List ℕ → List ℕ
+named name = name ++ codes ": "
+
+-- why a job failed, with the line below
+abbrev pub job_lines : Failure → List ℕ
+job_lines f = with_newline (failure_message f) ++ job_hint f
+
+-- why a header is refused, with the line below
+abbrev pub header_lines : HeaderFault → List ℕ
+header_lines fault = with_newline (header_message fault) ++ capture_hint fault
+
+-- why a request failed, with the line below
+abbrev pub failure_lines : WhyFailure → List ℕ
+failure_lines f = with_newline (why_failure_message f) ++ failure_hint f
+
+-- what is said on standard error
+abbrev pub exit_text : Exit → List ℕ
+exit_text (Request (Ok None)) = []
+exit_text (Request (Ok (Some remarks))) = remarks_text remarks
+exit_text (Request (Err f)) = codes "cbpf: " ++ failure_lines f
+exit_text (Refused text) = string_bytes text
+exit_text NotUtf8 = codes "cbpf: an argument is not UTF-8\n"
+
+-- the program had no memory
+abbrev pub out_of_memory : Exit
+out_of_memory = Request (Err (failed Memory))
+
+-- help was printed, or a write failed
+abbrev pub IsHelped : Result (Unit {0}) ToolFault → Type 0
+IsHelped (Ok x) = Unit {0}
+IsHelped (Err fault) = fault ≡ Write
+
+-- the exit status: that of the request, and 2 where there is none
+abbrev pub status_of : Exit → ℕ
+status_of (Request done) = request_status done
+status_of (Refused text) = 2
+status_of NotUtf8 = 2
+
+-- what the words ask for, or why they ask for nothing
+abbrev pub IsLine : List (List ℕ) → Result ARequest LineFault → Type 0
+IsLine words (Ok request) = IsRequest (requested_for words) request × (line_faults words ≡ [])
+IsLine words (Err fault) = IsFaultOf (line_faults words) fault
+
+-- a text of help, or a beginning of it where a write failed, went to the standard output. A reader that has closed its
+-- pipe has seen enough
+abbrev pub Explained : Hosted → Hosted → List ℕ → Exit → Type 0
+Explained old new text exit = ((new ≡ without_output old) × (exit ≡ out_of_memory))
+    ⊎ ((part : List ℕ) × (new ≡ and_then (without_output old) (printed part ∷ []))
+    × AppendedPart (Some []) (Some part) text
+    × ((exit ≡ Request (Ok None)) ⊎ (exit ≡ Request (Err (failed Write)))))
+
+-- a request was done, help was given, or nothing was
+abbrev pub Does : Hosted → Hosted → Result ARequest LineFault → Exit → Type 0
+Does old new (Ok request) exit = (done : _) × RequestDone old new request done × (exit ≡ Request done)
+Does old new (Err (line.Help text)) exit = Explained old new (string_bytes text) exit
+Does old new (Err (line.Refused text)) exit = (new ≡ old) × (exit ≡ Refused text)
+Does old new (Err line.Memory) exit = (new ≡ old) × (exit ≡ out_of_memory)
+
+-- what the words of a command line ask for was done
+pub record WordsDone (old new : Hosted) (words : List (List ℕ)) (exit : Exit) : Type 0 where
+  pub line : Result ARequest LineFault
+  pub read : IsLine words line
+  pub does : Does old new line exit
