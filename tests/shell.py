@@ -27,22 +27,25 @@ from pathlib import Path
 TOP = Path(__file__).resolve().parent.parent
 SHELL = TOP / "tools/cbpf-shell"
 EXAMPLES = TOP / "examples"
-NEEDED = "sh awk cat dd grep head id mkdir mkfifo mktemp readlink rm sleep stty tee tr wc"
+NEEDED = "sh awk cat dd grep head id mkdir mkfifo mktemp od readlink rm sleep stty tee tr wc"
 SECONDS = 30
 PROMPT = "cbpf> "
 ESCAPES = re.compile(r"\x1b\[[0-9;?]*[A-Za-z]|\x1b[=>]|[\x00\x07\x0f]")
+SHELLS = [["dash"], ["bash", "--posix"], ["busybox", "sh"]]
 RECORDER = """#!/bin/sh
 case $1 in asm) exec "$REAL" "$@" ;; esac
 tee "$SENT" | "$REAL" "$@"
 """
-# Each `run` takes a tenth of a second and has more packets ahead.
+# Each `run` takes a tenth of a second and has more packets ahead, and a trace takes a minute.
 SLOW = """#!/bin/sh
+case $1 in why) exec sleep 60 ;; esac
 runs=0
 while read -r line; do
     case $line in
         run*) runs=$((runs + 1)); sleep 0.1; echo "bpf passes:0 fails:$runs next:$((runs + 1))" ;;
         .) echo "error: Q1 unknown command" ;;
         load) echo "error: Q2 wrong arguments" ;;
+        load*) echo "pcap: 2 packets" ;;
         *) echo "1 0" ;;
     esac
 done
@@ -64,7 +67,7 @@ class Terminal:
             signal.signal(signal.SIGINT, signal.SIG_DFL)
             signal.signal(signal.SIGQUIT, signal.SIG_DFL)
             os.chdir(folder)
-            fcntl.ioctl(0, termios.TIOCSWINSZ, struct.pack("HHHH", 40, columns, 0, 0))
+            fcntl.ioctl(0, termios.TIOCSWINSZ, struct.pack("HHHH", 24, columns, 0, 0))
             os.execve(words[0], words, environment)
         self.pending = ""
 
@@ -127,12 +130,13 @@ class Place:
             "SENT": str(self.sent),
         }
 
-    def terminal(self, *words, columns=120, **more):
+    def terminal(self, *words, columns=80, **more):
         return Terminal([str(SHELL), *words], self.folder, {**self.environment, **more}, self.rlwrap, columns)
 
-    def piped(self, text, *words, **more):
+    def piped(self, text, *words, shell=(), **more):
         environment = {**self.environment, **more}
-        return subprocess.run([SHELL, *words], input=text, capture_output=True, cwd=self.folder, env=environment)
+        whole = [*shell, SHELL, *words]
+        return subprocess.run(whole, input=text, capture_output=True, cwd=self.folder, env=environment)
 
     def commands(self):
         """The lines that were sent, each of which two more follow that mark its reply's end."""
@@ -176,6 +180,11 @@ def typed(terminal, line):
     return terminal.reply()
 
 
+def shells():
+    """The shells that are there, by which sh may be one."""
+    return [[shutil.which(shell), *options] for shell, *options in SHELLS if shutil.which(shell)]
+
+
 NO_RLWRAP = "cbpf-shell: there is no history and no completion, as rlwrap is not installed"
 ARP = "4,40 0 0 12,21 0 1 2054,6 0 0 4294967295,6 0 0 0,"
 
@@ -197,9 +206,9 @@ def check_session(place):
     say(one, "", "-- packet 2, step 1 --", "(step)")
     say(one, "value mark 0x10", "value mark 16")
     say(one, "")
-    say(one, "b 0xzz", "error: Q2 wrong arguments")
+    say(one, "b 0xzz", "error: Q2 wrong arguments", "usage: breakpoint N [a V | x V]", "`help` lists")
     say(one, "b 2 a 0x100000000", "error: Q2 wrong arguments")
-    say(one, "* $(halt)", "error: Q1 unknown command")
+    say(one, "* $(halt)", "error: Q1 unknown command", "`help` lists")
     say(one, "load pcap  no  such", "error: F1 no such file")
     say(one, ".", "error: Q1 unknown command")
     say(one, "load", "error: Q2 wrong arguments")
@@ -264,11 +273,108 @@ def check_interrupts(place):
     slow.type("\x03")
     awaited(slow, "a run that is broken off", "bpf passes:0 fails:")
     say(slow, "mark", "1 0")
+    say(slow, "load pcap mixed.pcap", "pcap: 2 packets")
+    slow.type("why\n")
+    slow.read("why")
+    time.sleep(0.5)
+    slow.type("\x03")
+    say(slow, "mark", "1 0")
     slow.type("run\n")
     slow.read("run")
     time.sleep(0.5)
     slow.type("\x1c")
     check("the status of Ctrl-\\", slow.status()[1] in (131, -signal.SIGQUIT), True)
+
+
+STOP = """-- packet 1, step 3 --
+-- register dump --
+pc:       [2]
+code:     [6] jt[0] jf[0] k[4294967295]
+curr:     l2:	ret #0xffffffff
+A:        [00000806][2054]
+X:        [00000000][0]
+M[0,15]:  [00000000][0]
+"""
+BYTES = """-- packet dump --
+len: 42 wire: 42
+    0: ff ff ff ff ff ff 00 11 22 33 44 55 08 06 00 00
+   16: 00 00 00 00 00 00 00 00 00 00 00 00 00 00 00 00
+   32: 00 00 00 00 00 00 00 00 00 00
+"""
+TRACE = """packet 1
+l0:	ldh [12]	A 0 (0x0) X 0 (0x0)
+l1:	jeq #0x806, l2, l3	A 2054 (0x806) X 0 (0x0)	to l2
+l2:	ret #0xffffffff	A 2054 (0x806) X 0 (0x0)
+pass at l1:	jeq #0x806, l2, l3, true with A 2054 (0x806) X 0 (0x0), then l2:	ret #0xffffffff
+"""
+MARK = """packet 3
+l0:	ld mark	A 0 (0x0) X 0 (0x0)
+l1:	ret #0x1	A 9 (0x9) X 0 (0x0)
+pass at l1:	ret #0x1
+"""
+HINT = "error: Q2 wrong arguments\nusage: %s\n`help` lists the commands.\n"
+VIEWS = (
+    ("where", "error: S1 no program\n"),
+    ("why", "error: S1 no program\n"),
+    ("load bpf " + ARP, "bpf: 4 instructions\n"),
+    ("bytes", "error: S2 no capture\n"),
+    ("load pcap  mixed.pcap ", "pcap: 35 packets\n"),
+    ("where", "at 1 0\n"),
+    ("bytes", BYTES),
+    ("b 2", "breakpoint at: l2:\tret #0xffffffff\n"),
+    ("c", STOP + "(breakpoint)\n"),
+    ("bytes", BYTES),
+    ("bytes on", ""),
+    ("where", STOP + BYTES + "(breakpoint)\n"),
+    ("bytes off", ""),
+    ("why", TRACE),
+    ("run 2", "bpf passes:1 fails:1 next:3\n"),
+    ("where", STOP + "(breakpoint)\nat 3 0\n"),
+    ("why l1", TRACE),
+    ("continue", "bpf passes:1 fails:34\n"),
+    ("why all", HINT % "why [N]                   shows the trace of this packet, or of packet N"),
+    ("where 1", HINT % "where                     shows the last stop again"),
+    ("load bpf 2,32 0 0 4294963220,6 0 0 1", "bpf: 2 instructions\n"),
+    ("value mark 7", "value mark 7\n"),
+    ("value mark 9", "value mark 9\n"),
+    ("why 3", MARK),
+    ("where", "at 1 0\n"),
+)
+
+
+def check_views(place):
+    """A stop without bytes, the last stop again, bytes, and traces, by each shell."""
+    lines, wanted = ("".join(texts) for texts in zip(*((line + "\n", reply) for line, reply in VIEWS)))
+    for shell in shells():
+        done = place.piped(lines.encode(), shell=shell, CBPF=place.environment["REAL"])
+        check(f"the views by {shell}", (done.stdout.decode(), done.stderr, done.returncode), (wanted, b"", 0))
+
+
+def check_orders(place):
+    """The capture and the filter in either order, and a pipe, which is read once."""
+    loads = "bpf: 4 instructions\npcap: %d packets\n"
+    header = struct.pack("<HHiIII", 2, 4, 0, 0, 65535, 1), struct.pack(">HHiIII", 2, 4, 0, 0, 65535, 1)
+    for magic in (0xA1B2C3D4, 0xA1B23C4D):
+        (place.folder / f"-little {magic}").write_bytes(struct.pack("<I", magic) + header[0])
+        (place.folder / f"-big {magic}").write_bytes(struct.pack(">I", magic) + header[1])
+    for name, count in (("mixed.pcap", 35), *((path.name, 0) for path in place.folder.glob("-*"))):
+        for words in (("arp.asm", name), (name, "arp.asm")):
+            for shell in shells():
+                done = place.piped(b"", *words, shell=shell)
+                check(f"{words} by {shell}", (done.stdout.decode(), done.stderr), (loads % count, b""))
+    again = b"cbpf-shell: /dev/fd/3 is no file, so it can't be read again\n"
+    lines = b"bytes\nb 2\nr\nbytes\nwhy\n"
+    wanted = again + b"breakpoint at: l2:\tret #0xffffffff\n" + (STOP + "(breakpoint)\n" + BYTES).encode() + again
+    for words, lines, wanted in (
+        ("mixed.pcap /dev/fd/3 arp.asm", lines, wanted),
+        ("arp.asm /dev/fd/3 mixed.pcap", b"mark\n", b"1 0\n"),
+        ("arp.asm mixed.pcap /dev/fd/3", b"mark\n", b"1 0\n"),
+    ):
+        piped, *names = words.split()
+        whole = ["sh", "-c", f"exec 4<&0; cat {piped} | '{SHELL}' {' '.join(names)} 3<&0 <&4"]
+        ends = {"input": lines, "capture_output": True, "timeout": SECONDS}
+        done = subprocess.run(whole, cwd=place.folder, env={**place.environment, "CBPF": place.environment["REAL"]}, **ends)
+        check(f"{words}, the first by a pipe", (done.stdout, done.stderr), ((loads % 35).encode() + wanted, b""))
 
 
 def many_packets(path, count):
@@ -320,9 +426,13 @@ def check_filters(place):
     (place.folder / "wrong").write_text("ldh [12\n")
     (place.folder / "source with a NUL").write_text("ret\0 #7\n")
     (place.folder / "long").write_text("\n" * 10_000_001)
+    refused = {}
+    for name in ("wrong", "source with a NUL"):
+        asm = [place.environment["REAL"], "asm", name]
+        said = subprocess.run(asm, cwd=place.folder, capture_output=True).stderr.decode().replace("\0", "")
+        refused["mixed.pcap", name] = f"{name}: {said.removesuffix(chr(10))}"
     for wrong, said in {
-        ("mixed.pcap", "wrong"): "cbpf: line 1: A5 text ends inside an instruction",
-        ("mixed.pcap", "source with a NUL"): "cbpf: line 1: A1 unknown byte",
+        **refused,
         ("mixed.pcap", "long"): "cbpf-shell: long has more than 10000000 bytes",
         ("mixed.pcap", "absent"): "cbpf-shell: cannot read absent: No such file or directory",
         ("mixed.pcap", "."): "cbpf-shell: cannot read .: Is a directory",
@@ -364,7 +474,7 @@ def check_without_terminal(place):
     done = place.piped(b"mark\n", CBPF="/bin/false")
     check("a program that fails", (done.stdout, done.returncode), (b"", 1))
     done = place.piped(b"qu\0it\nmark\n")
-    check("a NUL in a line", done.stdout, b"error: Q1 unknown command\nerror: S1 no program\n")
+    check("a NUL in a line", done.stdout, b"error: Q1 unknown command\n`help` lists the commands.\nerror: S1 no program\n")
     piped = ["sh", "-c", f"'{SHELL}' mixed.pcap arp.asm | head -n 1"]
     ends = {"input": b"dump\n" * 99, "capture_output": True, "timeout": SECONDS}
     done = subprocess.run(piped, cwd=place.folder, env=place.environment, **ends)
@@ -377,13 +487,11 @@ def check_without_terminal(place):
 
 def check_signals(place):
     """A signal during the start leaves no process. What it leaves in TMPDIR is looked at after each check."""
-    shells = [words for words in (["dash"], ["bash", "--posix"], ["busybox", "sh"]) if shutil.which(words[0])]
     os.mkfifo(place.folder / "fifo")
     for turn in range(33):
         # At last the shell alone gets the signal, while it reads a filter that doesn't come.
         filter_, stop = ("arp.asm", os.killpg) if turn < 30 else ("fifo", os.kill)
-        shell, *options = shells[turn % len(shells)]
-        words = [shutil.which(shell), *options, SHELL, "mixed.pcap", filter_]
+        words = [*shells()[turn % len(shells())], SHELL, "mixed.pcap", filter_]
         ends = {"stdin": subprocess.PIPE, "stdout": subprocess.DEVNULL, "stderr": subprocess.DEVNULL}
         one = subprocess.Popen(words, cwd=place.folder, env=place.environment, start_new_session=True, **ends)
         time.sleep(0.02 + turn * 0.002)
@@ -441,7 +549,7 @@ def main():
         if rlwrap and not shutil.which("rlwrap"):
             print("not run under rlwrap: no rlwrap")
             continue
-        plain = [check_filters, check_without_terminal, check_signals, check_help, check_long_runs]
+        plain = [check_views, check_orders, check_filters, check_without_terminal, check_signals, check_help, check_long_runs]
         under = [check_without_rlwrap, check_history]
         for one in [check_session, check_interrupts, *(under if rlwrap else plain)]:
             with tempfile.TemporaryDirectory() as folder:
