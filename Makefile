@@ -29,6 +29,7 @@ define FILES
 644 completion/_cbpf share/zsh/site-functions/_cbpf
 644 completion/cbpf.fish share/fish/vendor_completions.d/cbpf.fish
 644 completion/cbpf.words share/cbpf/cbpf.words
+644 completion/cbpf.filter share/cbpf/cbpf.filter
 644 README.md share/doc/cbpf/README.md
 644 CHANGES.md share/doc/cbpf/CHANGES.md
 644 docs/REFERENCE.md share/doc/cbpf/REFERENCE.md

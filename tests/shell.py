@@ -541,6 +541,38 @@ def check_history(place):
     check("the file of the history", (place.folder / ".cbpf-shell_history").exists(), True)
 
 
+def check_completion(place):
+    """With perl Tab completes what can stand at a place, and offers nothing else."""
+    perl = shutil.which("perl")
+    if not perl:
+        print("not run with completion by places: no perl")
+        return
+    (place.folder / "tools/perl").symlink_to(perl)
+    lines = [line.split() for line in (TOP / "completion/cbpf.words").read_text().splitlines()]
+    after = {command: words for command, *words in lines}
+    one = place.terminal()
+    one.reply()
+    for before, wanted in ((" ", {*after}), ("value ", {*after["value"]}), ("load ", {"bpf", "pcap"})):
+        one.type(before)
+        one.read(before)
+        one.type("\t\t")
+        offered = one.read(rf"\n{PROMPT}{before}$").removesuffix(PROMPT + before)
+        check(f"what Tab offers after {before!r}", {*offered.split()}, wanted)
+        one.type("\x15")
+    for typed_, completed in (
+        ("bre\t", "breakpoint "),
+        ("breakpoint \t", "breakpoint reset "),
+        ("bytes of\t", "bytes off "),
+        ("load pcap mi\t", "load pcap mixed.pcap "),
+        ("load pcap two-packets.pcapn\t", "load pcap two-packets.pcapng "),
+    ):
+        one.type(typed_)
+        one.read(re.escape(completed))
+        one.type("\x15")
+    one.type("q\n")
+    check("the status after completions", one.status()[1], 0)
+
+
 def main():
     if len(sys.argv) != 2:
         sys.exit(__doc__)
@@ -550,7 +582,7 @@ def main():
             print("not run under rlwrap: no rlwrap")
             continue
         plain = [check_views, check_orders, check_filters, check_without_terminal, check_signals, check_help, check_long_runs]
-        under = [check_without_rlwrap, check_history]
+        under = [check_without_rlwrap, check_history, check_completion]
         for one in [check_session, check_interrupts, *(under if rlwrap else plain)]:
             with tempfile.TemporaryDirectory() as folder:
                 before = len(faults)
