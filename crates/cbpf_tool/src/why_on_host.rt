@@ -23,6 +23,7 @@ use std::alloc::Allocator;
 use std::io::Read;
 
 /// The filter that a file holds.
+#[tactic(auto, using(crate::proofs::WhyLemmas::hinted))]
 fn read_filter<A: Allocator + Copy, R: Read>(
     alloc: A,
     reader: &mut R,

@@ -6,4 +6,4 @@ returns-clause-report g c = λ ready capture e.
     let out = c.output.ensures.left ready.0 in
     report-printed _ _ _ _ _ capture _ _ _ c.why-done.result _ out (c.in-Ok.ensures.empty ready)
     (rw c.deref.ensures.value at (rw e at c.why-done.ensures.reported))
-    (c.print.ensures (rw out ready.0)) c.reported.ensures
+    (c.print.ensures (rw out ready.0)) (rw (rw e at c.link-link.ensures) at c.reported.ensures)
