@@ -1,18 +1,19 @@
 //! Captures that are read record by record, beside the same bytes as a `Capture`.
 
-use crate::assertions::{Test, assert_at, assert_at_both, assert_named};
+mod faults;
+
+use crate::assertions::{Test, assert_at, assert_named};
 use crate::captures::{capture, generated};
 use memory_tests::inputs::repeated;
 use pcap_classic::{
-    Capture, CaptureFault, CaptureReader, Captured, Ending, HeaderFault, OpenFault, ReadFault,
-    Records,
+    Capture, CaptureFault, CaptureReader, Captured, Ending, HeaderFault, OpenFault, Records,
 };
-use session_tests::fault_injection::{ERROR_KINDS, FaultyAllocator, FaultyReader};
+use session_tests::fault_injection::{FaultyAllocator, FaultyReader};
 use session_tests::inputs::{HEADER, RECORD};
 use session_tests::two_packets;
 use std::alloc::Allocator;
 use std::io;
-use std::io::{ErrorKind, Read};
+use std::io::Read;
 use std::process::Abort;
 
 /// The bytes of the room at first.
@@ -30,7 +31,10 @@ fn reads_buffered<R: Read, A: Allocator>(
 }
 
 /// Whether the reader reads this record next. Each second one is taken by `next_buffered`, where that gives one.
-fn reads<R: Read, A: Allocator>(reader: &mut CaptureReader<R, A>, wanted: &Captured<'_>) -> bool {
+pub(crate) fn reads<R: Read, A: Allocator>(
+    reader: &mut CaptureReader<R, A>,
+    wanted: &Captured<'_>,
+) -> bool {
     let buffered = if wanted.number % 2 == 0 {
         reads_buffered(reader, wanted)
     } else {
@@ -44,7 +48,10 @@ fn reads<R: Read, A: Allocator>(reader: &mut CaptureReader<R, A>, wanted: &Captu
 }
 
 /// Whether it is at its end, which is this one.
-fn ends<R: Read, A: Allocator>(reader: &mut CaptureReader<R, A>, wanted: Ending) -> bool {
+pub(crate) fn ends<R: Read, A: Allocator>(
+    reader: &mut CaptureReader<R, A>,
+    wanted: Ending,
+) -> bool {
     reader.next_buffered().is_none()
         && matches!(reader.next_record(), Ok(None))
         && reader.next_buffered().is_none()
@@ -144,7 +151,7 @@ fn each_fault_of_the_header(rt: HostRuntime) {
     let of_another_version = with_bytes(&rt, file, 6, [3, 0]);
     let of_another_magic = with_bytes(&rt, file, 0, [0, 0]);
     assert!(rt; fault_of(&rt, file.get(0..23).unwrap_or(b"")) == Some(HeaderFault::FileHeaderCut));
-    assert!(rt; fault_of(&rt, &of_another_magic) == Some(HeaderFault::UnknownMagic));
+    assert!(rt; fault_of(&rt, &of_another_magic) == Some(HeaderFault::UnknownMagic(0xb2a1)));
     assert!(rt; fault_of(&rt, &of_another_version) == Some(HeaderFault::UnknownVersion));
     assert!(rt; fault_of(&rt, file.get(0..24).unwrap_or(b"")) == None);
 }
@@ -253,134 +260,6 @@ fn room_for_long_records(rt: HostRuntime) {
         let is_wanted = asked_for(&rt, *captured, *present) == *wanted;
         assert_named(&rt, is_wanted, "the room", (*captured, *present));
     }
-}
-
-/// Whether a call failed as the read that is to fail does.
-fn is_failed(fault: &ReadFault, kind: ErrorKind) -> bool {
-    matches!(fault, ReadFault::Read(e) if e.kind() == kind)
-}
-
-/// Whether the reader reads this record next, or first a fault of this kind and then the record. Counts faults.
-fn reads_in_two<R: Read, A: Allocator>(
-    reader: &mut CaptureReader<R, A>,
-    wanted: &Captured<'_>,
-    kind: ErrorKind,
-    faults: &mut u32,
-) -> bool {
-    match reader.next_record() {
-        Ok(Some(record)) => record == *wanted,
-        Ok(None) => false,
-        Err(fault) => {
-            *faults = faults.saturating_add(1);
-            is_failed(&fault, kind) && reader.ending() == None && reads(reader, wanted)
-        }
-    }
-}
-
-/// Whether it is at this end, or has a fault of this kind first. Counts faults.
-fn ends_in_two<R: Read, A: Allocator>(
-    reader: &mut CaptureReader<R, A>,
-    wanted: Ending,
-    kind: ErrorKind,
-    faults: &mut u32,
-) -> bool {
-    match reader.next_record() {
-        Ok(record) => record == None && reader.ending() == Some(wanted),
-        Err(fault) => {
-            *faults = faults.saturating_add(1);
-            is_failed(&fault, kind) && ends(reader, wanted)
-        }
-    }
-}
-
-/// How often a call fails while a capture is read whole, of which one read fails by this kind of error.
-fn faults_at(rt: &impl Test, file: &[u8], call: u64, kind: ErrorKind) -> u32 {
-    let capture = capture(rt, file);
-    let mut faults = 0;
-    let mut source = FaultyReader::new(file, 13, call);
-    source.set_error(kind);
-    match CaptureReader::new(rt.alloc(), source) {
-        Ok(mut reader) => {
-            for record in capture.records(1, u64::MAX) {
-                assert!(rt; reads_in_two(&mut reader, &record, kind, &mut faults));
-            }
-            assert!(rt; ends_in_two(&mut reader, capture.ending(), kind, &mut faults));
-        }
-        Err(OpenFault::Read(fault)) => {
-            assert!(rt; call <= 2 && is_failed(&fault, kind));
-            faults = 1;
-        }
-        Err(_) => assert!(rt; false),
-    }
-    faults
-}
-
-/// After a read or a growth that fails the same record is read.
-#[test]
-fn one_read_fails(rt: HostRuntime) {
-    let file = two_packets::big_endian();
-    let cut = file.get(0..131).unwrap_or(b"");
-    for kind in ERROR_KINDS {
-        for call in 1..=12u32 {
-            let faults = faults_at(&rt, file, u64::from(call), kind);
-            assert_at_both(&rt, call, 132, faults == 1);
-            let faults = faults_at(&rt, cut, u64::from(call), kind);
-            assert_at_both(&rt, call, 131, faults == 1);
-        }
-        assert!(rt; faults_at(&rt, file, 13, kind) == 0);
-    }
-}
-
-/// Whether the record comes at once, or after one call that is out of memory. Counts these.
-fn reads_after_memory<R: Read, A: Allocator>(
-    reader: &mut CaptureReader<R, A>,
-    wanted: &Captured<'_>,
-    faults: &mut u32,
-) -> bool {
-    match reader.next_record() {
-        Ok(Some(record)) => record == *wanted,
-        Ok(None) => false,
-        Err(fault) => {
-            *faults = faults.saturating_add(1);
-            matches!(fault, ReadFault::Memory) && reads(reader, wanted)
-        }
-    }
-}
-
-/// Asserts that a capture is read whole where one growth is refused: how often a call is out of memory.
-fn refused_at(rt: &impl Test, file: &[u8], nth: u64) -> u32 {
-    let capture = capture(rt, file);
-    let refusing = FaultyAllocator::new(rt.alloc(), nth);
-    let mut faults = 0;
-    match CaptureReader::new(&refusing, FaultyReader::new(file, 50_000, 0)) {
-        Ok(mut reader) => {
-            for record in capture.records(1, u64::MAX) {
-                assert!(rt; reads_after_memory(&mut reader, &record, &mut faults));
-            }
-            assert!(rt; ends(&mut reader, capture.ending()));
-        }
-        Err(fault) => {
-            faults = 1;
-            assert!(rt; nth == 1 && matches!(fault, OpenFault::Read(ReadFault::Memory)));
-        }
-    }
-    assert_named(rt, (refusing.left() == 0) == (faults == 1), "left", nth);
-    faults
-}
-
-/// After a read or a growth that fails the same record is read.
-#[test]
-fn each_growth_is_refused(rt: HostRuntime) {
-    let bytes = of_lengths(&rt, &[5, 400_000, 7, 300_000, 600_000, 9]);
-    for nth in 1..=4u32 {
-        assert_named(
-            &rt,
-            refused_at(&rt, &bytes, u64::from(nth)) == 1,
-            "growth",
-            nth,
-        );
-    }
-    assert!(rt; refused_at(&rt, &bytes, 5) == 0);
 }
 
 /// A source that has more bytes once its end was read.

@@ -50,7 +50,7 @@ fn faults_of_lines_and_files(rt: HostRuntime) {
 /// What a fault says is shown by `{}` without `error: `.
 #[test]
 fn faults_of_captures(rt: HostRuntime) {
-    let magic = CaptureFault::Header(HeaderFault::UnknownMagic);
+    let magic = CaptureFault::Header(HeaderFault::UnknownMagic(0));
     assert_shown(&rt, magic, "P2 unknown magic");
     assert_shown(&rt, CaptureFault::Memory, "out of memory");
     assert_shown(&rt, HeaderFault::UnknownVersion, "P3 version is not 2.4");
@@ -71,7 +71,7 @@ fn faults_of_jobs(rt: HostRuntime) {
     assert_shown(&rt, ToolFault::Memory, "out of memory");
     assert_shown(
         &rt,
-        WhyFailure::Input(HeaderFault::UnknownMagic),
+        WhyFailure::Input(HeaderFault::UnknownMagic(0)),
         "P2 unknown magic",
     );
     assert_shown(&rt, Failure::Tool(ToolFault::Write), "write fault");
