@@ -120,7 +120,11 @@ impl Error for SessionFault {}
 const OUT_OF_MEMORY: Message = Text("out of memory");
 
 /// Writes a line that begins so and ends with what a fault says.
-pub fn write_message<W: Write>(w: &mut W, start: &[u8], message: Message) -> Result<(), WriteFault>
+pub fn write_message<W: Write>(
+    w: &mut W,
+    start: &'static [u8],
+    message: Message,
+) -> Result<(), WriteFault>
     ensures { Wrote (W.contents w.old) (W.contents w.new) result (spec.message_line start.now (message_text message)) }
 {
     match message {

@@ -45,6 +45,10 @@ failure_hint (failure.Input fault) = capture_hint fault
 abbrev pub with_newline : List ℕ → List ℕ
 with_newline message = message ++ codes "\n"
 
+-- a file of this name can't be opened
+abbrev pub unopened_line : List ℕ → List ℕ
+unopened_line name = with_newline (codes "cannot open " ++ name)
+
 -- what is wrong with a file, after its name
 abbrev pub named : List ℕ → List ℕ
 named name = name ++ codes ": "
@@ -61,11 +65,15 @@ header_lines fault = with_newline (header_message fault) ++ capture_hint fault
 abbrev pub failure_lines : WhyFailure → List ℕ
 failure_lines f = with_newline (why_failure_message f) ++ failure_hint f
 
+-- what a line begins with
+unfoldable pub start : List ℕ
+start = codes "cbpf: "
+
 -- what is said on standard error
 abbrev pub exit_text : Exit → List ℕ
 exit_text (Request (Ok None)) = []
 exit_text (Request (Ok (Some remarks))) = remarks_text remarks
-exit_text (Request (Err f)) = codes "cbpf: " ++ failure_lines f
+exit_text (Request (Err f)) = start ++ failure_lines f
 exit_text (Refused text) = string_bytes text
 exit_text NotUtf8 = codes "cbpf: an argument is not UTF-8\n"
 

@@ -98,7 +98,14 @@ fn write_tool_fault<W: Write>(w: &mut W, fault: ToolFault) -> Result<(), WriteFa
     }
 }
 
-/// Writes why a job failed, after what a line begins with, and the line below.
+/// Writes that the file of this name can't be opened.
+fn write_unopened<W: Write>(w: &mut W, name: &str) -> Result<(), WriteFault>
+    ensures { Wrote (W.contents w.old) (W.contents w.new) result (spec.unopened_line name.now) }
+{
+    write_parts(w, &[b"cannot open ", name.as_bytes(), b"\n"])
+}
+
+/// Writes why a job failed, and the line below.
 #[tactic(auto, using(cbpf_code::proofs::WrittenLemmas::three, cbpf_code::proofs::WrittenLemmas::steps))]
 fn write_job_failure<W: Write>(w: &mut W, failure: &Failure) -> Result<(), WriteFault>
     ensures { Wrote (W.contents w.old) (W.contents w.new) result (spec.job_lines failure.now) }
@@ -109,9 +116,7 @@ fn write_job_failure<W: Write>(w: &mut W, failure: &Failure) -> Result<(), Write
             write_source_fault(w, *fault)?;
             hint.write(w)
         }
-        Failure::CannotOpen(name) => {
-            write_parts(w, &[b"cannot open ", name.as_str().as_bytes(), b"\n"])
-        }
+        Failure::CannotOpen(name) => write_unopened(w, name.as_str()),
     }
 }
 
@@ -155,10 +160,10 @@ fn write_failure<W: Write>(w: &mut W, failure: &WhyFailure) -> Result<(), WriteF
     match failure {
         WhyFailure::Job(failure) => write_job_failure(w, failure),
         WhyFailure::Read(name) => write_parts(w, &[name.as_str().as_bytes(), b": read fault\n"]),
-        WhyFailure::NoFilter(name) => write_parts(
-            w,
-            &[b"cannot open ", name.as_str().as_bytes(), b"\n", NO_FILTER],
-        ),
+        WhyFailure::NoFilter(name) => {
+            write_unopened(w, name.as_str())?;
+            write_bytes(w, NO_FILTER)
+        }
         WhyFailure::Filter(name, fault, hint) => {
             write_filter_lines(w, name.as_str(), *fault, hint)
         }
@@ -168,6 +173,14 @@ fn write_failure<W: Write>(w: &mut W, failure: &WhyFailure) -> Result<(), WriteF
         }
         WhyFailure::Input(fault) => write_header_fault(w, *fault),
     }
+}
+
+/// Writes what a line begins with.
+#[tactic(auto, unfolding(crate::specs::Exits::start))]
+fn write_start<W: Write>(w: &mut W) -> Result<(), WriteFault>
+    ensures { Wrote (W.contents w.old) (W.contents w.new) result spec.start }
+{
+    write_bytes(w, b"cbpf: ")
 }
 
 /// Writes what is to be said on standard error of how the program ends.
@@ -183,7 +196,7 @@ pub fn write_exit<W: Write>(w: &mut W, exit: &Exit) -> Result<(), WriteFault>
         Exit::Request(Ok(None)) => write_bytes(w, b""),
         Exit::Request(Ok(Some(remarks))) => write_remarks(w, remarks),
         Exit::Request(Err(failure)) => {
-            write_bytes(w, b"cbpf: ")?;
+            write_start(w)?;
             write_failure(w, failure)
         }
         Exit::Refused(text) => write_bytes(w, text.as_str().as_bytes()),

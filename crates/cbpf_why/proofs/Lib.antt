@@ -8,6 +8,7 @@ pub mod InRangeLemmas
 pub mod RangeLemmas
 pub mod ReportLemmas
 pub mod BlockLemmas
+mod InstructionLemmas
 pub mod StraightLemmas
 pub mod GroupLawLemmas
 pub mod LawLemmas
