@@ -8,7 +8,6 @@ pub mod InRangeLemmas
 pub mod RangeLemmas
 pub mod ReportLemmas
 pub mod BlockLemmas
-mod InstructionLemmas
 pub mod StraightLemmas
 pub mod GroupLawLemmas
 pub mod LawLemmas
