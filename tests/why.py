@@ -43,6 +43,12 @@ COMPARED = {0x15: operator.eq, 0x25: operator.gt, 0x35: operator.ge, 0x45: opera
 BY_X = 0x08
 DIVISIONS_BY_X = [0x3C, 0x9C]
 VERDICTS = {"pass": "palegreen", "fail": "lightsalmon", "unknown": "khaki"}
+GRAPH_HEAD = """\
+digraph filter {
+graph [fontname=monospace labelloc=t]
+node [shape=box fontname=monospace]
+edge [fontname=monospace]
+packets [shape=plaintext]""".splitlines()
 MICROSECONDS, NANOSECONDS = 0xA1B2C3D4, 0xA1B23C4D
 # The most memory that a capture may take, whatever its size.
 FEW_BYTES = 4 << 20
@@ -188,27 +194,27 @@ def edges(found, last):
 
 
 def grey(count):
-    return "" if count else " color=grey fontcolor=grey"
+    return "" if count else " color=grey45 fontcolor=grey45 style=dashed"
 
 
 def line_of_block(line, count):
     text = html.escape(line.replace("\t", " "), quote=False)
-    return (text if count else f'<font color="grey">{text}</font>') + '<br align="left"/>'
+    return (text if count else f'<font color="grey45">{text}</font>') + '<br align="left"/>'
 
 
 def graph(found):
     ran, _ = found.counts()
-    yield "digraph filter {"
-    yield "node [shape=box fontname=monospace]"
+    yield from GRAPH_HEAD
+    yield f'packets -> l0 [label=" {len(found.traces)} "{grey(len(found.traces))}]'
     for first, last in blocks(found.program):
         lines = "".join(line_of_block(found.listing[at], ran[at]) for at in range(first, last + 1))
         yield f"l{first} [label=<{lines}>{grey(ran[first])}]"
         for to, count, word in edges(found, last):
-            yield f'l{first} -> l{to} [label="{word}{count}"{grey(count)}]'
+            yield f'l{first} -> l{to} [label=" {word}{count} "{grey(count)}]'
     for pc, verdict, why, numbers in found.ends():
         block = next(first for first, last in blocks(found.program) if first <= pc <= last)
         yield f'{verdict}{pc} [label="{verdict}{why}" shape=oval style=filled fillcolor={VERDICTS[verdict]}]'
-        yield f'l{block} -> {verdict}{pc} [label="{len(numbers)}"]'
+        yield f'l{block} -> {verdict}{pc} [label=" {len(numbers)} "]'
     yield "}"
 
 

@@ -44,16 +44,20 @@ const ARP_COVERAGE: &[u8] = b"2\tl0:\tldh [12]\n\
 1\tl3:\tret #0\n";
 
 const ARP_GRAPH: &[u8] = b"digraph filter {\n\
+graph [fontname=monospace labelloc=t]\n\
 node [shape=box fontname=monospace]\n\
+edge [fontname=monospace]\n\
+packets [shape=plaintext]\n\
+packets -> l0 [label=\" 2 \"]\n\
 l0 [label=<l0: ldh [12]<br align=\"left\"/>l1: jeq #0x806, l2, l3<br align=\"left\"/>>]\n\
-l0 -> l2 [label=\"true 1\"]\n\
-l0 -> l3 [label=\"false 1\"]\n\
+l0 -> l2 [label=\" true 1 \"]\n\
+l0 -> l3 [label=\" false 1 \"]\n\
 l2 [label=<l2: ret #0xffffffff<br align=\"left\"/>>]\n\
 l3 [label=<l3: ret #0<br align=\"left\"/>>]\n\
 pass2 [label=\"pass\" shape=oval style=filled fillcolor=palegreen]\n\
-l2 -> pass2 [label=\"1\"]\n\
+l2 -> pass2 [label=\" 1 \"]\n\
 fail3 [label=\"fail\" shape=oval style=filled fillcolor=lightsalmon]\n\
-l3 -> fail3 [label=\"1\"]\n\
+l3 -> fail3 [label=\" 1 \"]\n\
 }\n";
 
 /// A report, its text, and how long the text is after no packet, one and two.

@@ -16,10 +16,11 @@ pub record HasAllCounts {A P : Type 0} (c : CountedProgram A P) : Type 0 where
   pub begins : length c.begins.now ≡ length c.program.now
   pub groups : (v : Verdict) → length (by_verdict c.groups.now v) ≡ 2 * length c.program.now
 
--- what is counted of a program over some records: the blocks are those of its list, each instruction ran so often, and
--- the groups are those of the records
+-- what is counted of a program over some records: how many they are, the blocks are those of its list, each instruction
+-- ran so often, and the groups are those of the records
 pub record IsCounted {A P : Type 0} (c : CountedProgram A P) (m : Machine) (records : List Record) : Type 0 where
   pub list : m.list ≡ c.program.now
+  pub packets : c.packets ≡ length records
   pub begins : (i : ℕ) → i < length m.list → slice_index_or c.begins.now i false ≡ begins_block m.list i
   pub runs : (i : ℕ) → runs_at c.runs.now i ≡ record { executed = executed m records i; taken = taken m records i }
   pub groups : KeepsAll c.groups.now (length m.list) (alone_of m records)

@@ -1,8 +1,8 @@
 -- A program as a graph in DOT, the language of Graphviz: a node for each basic block with its listing, an edge from
--- one block to another with how often it was taken, and for each group of packets that ended at the same
--- instruction with the same verdict a node in the colour of the verdict. A block, an instruction or an edge that never
--- ran is grey (this project's own; labels and their tags are those of Graphviz's "The DOT Language" and "HTML-Like
--- Labels").
+-- one block to another with how often it was taken, an edge to the first block with how many packets there are, and for
+-- each group of packets that ended at the same instruction with the same verdict a node in the colour of the verdict. A
+-- block, an instruction or an edge that never ran is grey (this project's own; labels and their tags are those of
+-- Graphviz's "The DOT Language" and "HTML-Like Labels").
 use Rattle.std.specs.Prelude.{ℕ, zero, suc, ◌+◌, ◌-◌, ◌*◌, Bool, ◌==◌, ◌||◌, List, [], ◌∷◌, ◌++◌, length}
 use Rattle.std.specs.Prelude.{codes, decimal, Option, Some, None, if◌then◌else◌, slice_get}
 use Rattle.std.specs.List.{flat_map, list_any, enumerate_from}
@@ -67,7 +67,7 @@ label_text text = flat_map label_byte text
 
 -- likewise in grey
 abbrev pub grey_text : List ℕ → List ℕ
-grey_text text = codes "<font color=\"grey\">" ++ (label_text text ++ codes "</font>")
+grey_text text = codes "<font color=\"grey45\">" ++ (label_text text ++ codes "</font>")
 
 -- the text of an instruction, which is grey where it never ran
 abbrev pub counted_text : List ℕ → ℕ → List ℕ
@@ -83,15 +83,18 @@ block_line list i count = counted_text (line_text list i) count ++ codes "<br al
 abbrev pub node : ℕ → List ℕ
 node i = codes "l" ++ decimal i
 
--- what never ran is grey
+-- what never ran is grey and dashed; the grey is dark enough to be read on white
 abbrev pub grey_where_none : ℕ → List ℕ
-grey_where_none count = if count == 0 then codes " color=grey fontcolor=grey" else []
+grey_where_none count = if count == 0 then codes " color=grey45 fontcolor=grey45 style=dashed" else []
+
+-- how often an edge was taken, after a word; the blanks keep the label off the line
+unfoldable pub edge_label : List ℕ → ℕ → List ℕ
+edge_label word count =
+    concat (codes " [label=\" " ∷ word ∷ decimal count ∷ codes " \"" ∷ grey_where_none count ∷ codes "]\n" ∷ [])
 
 -- an edge with how often it was taken, after a word
 unfoldable pub edge : ℕ → ℕ → List ℕ → ℕ → List ℕ
-edge from to word count =
-    concat (node from ∷ codes " -> " ∷ node to ∷ codes " [label=\"" ∷ word ∷ decimal count ∷ codes "\""
-    ∷ grey_where_none count ∷ codes "]\n" ∷ [])
+edge from to word count = concat (node from ∷ codes " -> " ∷ node to ∷ edge_label word count ∷ [])
 
 -- what is counted of an instruction: its runs, those of its block, and the three groups in its first row
 abbrev pub facts_at : Machine → List Record → List Decided → ℕ → Facts
@@ -158,8 +161,7 @@ end_node e = verdict_in e ++ decimal e.pc
 abbrev pub end_edge : ℕ → Ended → ℕ → List ℕ
 end_edge block e count =
     concat (end_node e ∷ codes " [label=\"" ∷ verdict_in e ∷ reason_after e.reason ∷ codes "\" shape=oval style=filled fillcolor="
-    ∷ colour (verdict_of e.reason) ∷ codes "]\n" ∷ node block ∷ codes " -> " ∷ end_node e ∷ codes " [label=\"" ∷ decimal count
-    ∷ codes "\"]\n" ∷ [])
+    ∷ colour (verdict_of e.reason) ∷ codes "]\n" ∷ node block ∷ codes " -> " ∷ end_node e ∷ edge_label [] count ∷ [])
 
 -- by how many packets a group has, and its first one
 abbrev pub group_end_by : ℕ → ℕ → Option Decided → List ℕ
@@ -176,12 +178,15 @@ group_end block g = group_end_by block g.count g.first
 abbrev pub end_part : ℕ → Facts → List ℕ
 end_part block f = group_end block f.passed ++ (group_end block f.failed ++ group_end block f.unknown)
 
--- how a graph begins
-abbrev pub graph_head : List ℕ
-graph_head = codes "digraph filter {\nnode [shape=box fontname=monospace]\n"
+-- how a graph begins, with the edge of so many packets to the first block; a title that dot is given stands on top
+abbrev pub graph_head : ℕ → List ℕ
+graph_head count =
+    concat (codes "digraph filter {\n" ∷ codes "graph [fontname=monospace labelloc=t]\n"
+    ∷ codes "node [shape=box fontname=monospace]\n" ∷ codes "edge [fontname=monospace]\n"
+    ∷ codes "packets [shape=plaintext]\npackets -> l0" ∷ edge_label [] count ∷ [])
 
 -- the blocks with the edges between them, and then the groups of packets that ended
 unfoldable pub graph_text : Machine → List Record → List Decided → List ℕ
 graph_text m records ends =
-    graph_head ++ (texts_from (λ i. block_part m.list i (facts_at m records ends i)) 0 (length m.list)
+    graph_head (length records) ++ (texts_from (λ i. block_part m.list i (facts_at m records ends i)) 0 (length m.list)
     ++ (texts_from (λ i. end_part (block_of m.list i) (facts_at m records ends i)) 0 (length m.list) ++ codes "}\n"))

@@ -42,7 +42,7 @@ fn write_label<W: Write>(w: &mut W, text: &[u8]) -> Result<(), WriteFault>
 fn write_grey<W: Write>(w: &mut W, text: &[u8]) -> Result<(), WriteFault>
     ensures { Wrote (W.contents w.old) (W.contents w.new) result (spec.grey_text text.now) }
 {
-    write_bytes(w, b"<font color=\"grey\">")?;
+    write_bytes(w, b"<font color=\"grey45\">")?;
     write_label(w, text)?;
     write_bytes(w, b"</font>")
 }
@@ -83,15 +83,45 @@ pub(crate) fn prepend_node(line: &mut Line, block: u64)
     line.prepend(b"l");
 }
 
-/// Puts the colour of what never ran.
+/// Puts how what never ran is drawn.
 fn prepend_grey(line: &mut Line, count: u64)
-    requires { length line.old + 26 ≤ LINE_SIZE }
+    requires { length line.old + 43 ≤ LINE_SIZE }
     ensures text { line.new ≡ spec.grey_where_none count ++ line.old }
-    ensures grown { length line.new ≤ length line.old + 26 }
+    ensures grown { length line.new ≤ length line.old + 43 }
 {
     if count == 0 {
-        line.prepend(b" color=grey fontcolor=grey");
+        line.prepend(b" color=grey45 fontcolor=grey45 style=dashed");
     }
+}
+
+/// Puts how often an edge was taken, after a word.
+#[tactic(auto, unfolding(crate::specs::Graph::edge_label))]
+pub(crate) fn prepend_edge_label(line: &mut Line, word: &[u8], count: u64)
+    requires word { length word.now ≤ 6 }
+    requires room { length line.old + 83 ≤ LINE_SIZE }
+    ensures text { line.new ≡ spec.edge_label word.now count ++ line.old }
+    ensures grown { length line.new ≤ length line.old + 83 }
+{
+    line.prepend(b"]\n");
+    prepend_grey(line, count);
+    line.prepend(b" \"");
+    line.prepend_u64(count);
+    line.prepend(word);
+    line.prepend(b" [label=\" ");
+}
+
+/// Writes the begin of a graph, with the edge of so many packets to the first block.
+pub(crate) fn write_head<W: Write>(w: &mut W, count: u64) -> Result<(), WriteFault>
+    ensures { Wrote (W.contents w.old) (W.contents w.new) result (spec.graph_head count) }
+{
+    let mut line = Line::new();
+    prepend_edge_label(&mut line, b"", count);
+    line.prepend(b"packets [shape=plaintext]\npackets -> l0");
+    line.prepend(b"edge [fontname=monospace]\n");
+    line.prepend(b"node [shape=box fontname=monospace]\n");
+    line.prepend(b"graph [fontname=monospace labelloc=t]\n");
+    line.prepend(b"digraph filter {\n");
+    line.write(w)
 }
 
 /// Writes an edge, with how often it was taken after a word.
@@ -107,12 +137,7 @@ fn write_edge<W: Write>(
     ensures { Wrote (W.contents w.old) (W.contents w.new) result (spec.edge from to word.now count) }
 {
     let mut line = Line::new();
-    line.prepend(b"]\n");
-    prepend_grey(&mut line, count);
-    line.prepend(b"\"");
-    line.prepend_u64(count);
-    line.prepend(word);
-    line.prepend(b" [label=\"");
+    prepend_edge_label(&mut line, word, count);
     prepend_node(&mut line, to);
     line.prepend(b" -> ");
     prepend_node(&mut line, from);

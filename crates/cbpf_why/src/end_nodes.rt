@@ -7,7 +7,7 @@ ghost use Rattle.cbpf_code.specs.Writing.{Wrote};
 ghost use Rattle.cbpf_code.specs.declared.writing.TheConstants.{LINE_SIZE};
 ghost use Rattle.cbpf_why.specs.Graph as spec;
 
-use crate::block_nodes::prepend_node;
+use crate::block_nodes::{prepend_edge_label, prepend_node};
 use crate::ended::{Ended, Verdict, prepend_reason_after, prepend_verdict};
 use crate::graph::Facts;
 use crate::groups::Group;
@@ -45,9 +45,7 @@ fn write_end_edge<W: Write>(
     ensures { Wrote (W.contents w.old) (W.contents w.new) result (spec.end_edge block first count) }
 {
     let mut line = Line::new();
-    line.prepend(b"\"]\n");
-    line.prepend_u64(count);
-    line.prepend(b" [label=\"");
+    prepend_edge_label(&mut line, b"", count);
     prepend_end_node(&mut line, first);
     line.prepend(b" -> ");
     prepend_node(&mut line, u64::from(block));

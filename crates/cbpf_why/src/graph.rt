@@ -9,7 +9,7 @@ ghost use Rattle.cbpf_why.specs.CountedProgram.{HasAllCounts, IsCounted};
 ghost use Rattle.cbpf_why.specs.Ends.{alone_of};
 ghost use Rattle.cbpf_why.specs.Graph as spec;
 
-use crate::block_nodes::write_block_part;
+use crate::block_nodes::{write_block_part, write_head};
 use crate::end_nodes::write_ends_at;
 use crate::ended::Verdict;
 use crate::groups::{Group, Groups};
@@ -22,6 +22,8 @@ use std::io::Write;
 #[derive(Drop)]
 pub(crate) struct CountedProgram<'a, A: Allocator, P: Allocator> {
     pub(crate) program: &'a Program<P>,
+    /// How many packets there were.
+    pub(crate) packets: u64,
     /// How often each instruction ran.
     pub(crate) runs: &'a [Runs],
     /// Which instructions begin a basic block.
@@ -128,10 +130,7 @@ pub(crate) fn write_graph<W: Write, A: Allocator + Copy, P: Allocator>(
     ensures { (m : Machine) (records : List Record) → IsCounted counted.now m records
         → Wrote (W.contents w.old) (W.contents w.new) result (spec.graph_text m records (alone_of m records)) }
 {
-    write_bytes(
-        w,
-        b"digraph filter {\nnode [shape=box fontname=monospace]\n",
-    )?;
+    write_head(w, counted.packets)?;
     write_blocks(w, counted)?;
     write_ends(w, counted)?;
     write_bytes(w, b"}\n")

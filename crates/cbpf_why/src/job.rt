@@ -114,6 +114,7 @@ fn write_counted_graph<P: Allocator, A: Allocator + Copy, W: Write>(
     };
     let counted = CountedProgram {
         program: question.program,
+        packets: counted.tally.packets(),
         runs: counted.tally.runs(),
         begins: &begins,
         groups: &counted.groups,

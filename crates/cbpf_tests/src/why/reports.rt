@@ -127,39 +127,43 @@ const COVERAGE: &[u8] = b"7\tl0:\tldb [0]\n\
 1\tl13:\tret #0\n";
 
 const GRAPH: &[u8] = b"digraph filter {\n\
+graph [fontname=monospace labelloc=t]\n\
 node [shape=box fontname=monospace]\n\
+edge [fontname=monospace]\n\
+packets [shape=plaintext]\n\
+packets -> l0 [label=\" 7 \"]\n\
 l0 [label=<l0: ldb [0]<br align=\"left\"/>l1: jeq #0x1, l2, l3<br align=\"left\"/>>]\n\
-l0 -> l2 [label=\"true 1\"]\n\
-l0 -> l3 [label=\"false 5\"]\n\
+l0 -> l2 [label=\" true 1 \"]\n\
+l0 -> l3 [label=\" false 5 \"]\n\
 l2 [label=<l2: div x<br align=\"left\"/>>]\n\
-l2 -> l3 [label=\"0\" color=grey fontcolor=grey]\n\
+l2 -> l3 [label=\" 0 \" color=grey45 fontcolor=grey45 style=dashed]\n\
 l3 [label=<l3: jeq #0x2, l4, l4<br align=\"left\"/>>]\n\
-l3 -> l4 [label=\"true 3\"]\n\
-l3 -> l4 [label=\"false 2\"]\n\
+l3 -> l4 [label=\" true 3 \"]\n\
+l3 -> l4 [label=\" false 2 \"]\n\
 l4 [label=<l4: jgt #0x3, l5, l8<br align=\"left\"/>>]\n\
-l4 -> l5 [label=\"true 1\"]\n\
-l4 -> l8 [label=\"false 4\"]\n\
-l5 [label=<l5: ld mark<br align=\"left\"/><font color=\"grey\">l6: tax</font><br align=\"left\"/><font color=\"grey\">l7: ret a</font><br align=\"left\"/>>]\n\
+l4 -> l5 [label=\" true 1 \"]\n\
+l4 -> l8 [label=\" false 4 \"]\n\
+l5 [label=<l5: ld mark<br align=\"left\"/><font color=\"grey45\">l6: tax</font><br align=\"left\"/><font color=\"grey45\">l7: ret a</font><br align=\"left\"/>>]\n\
 l8 [label=<l8: jmp l10<br align=\"left\"/>>]\n\
-l8 -> l10 [label=\"4\"]\n\
-l9 [label=<<font color=\"grey\">l9: ret #0x1</font><br align=\"left\"/>> color=grey fontcolor=grey]\n\
+l8 -> l10 [label=\" 4 \"]\n\
+l9 [label=<<font color=\"grey45\">l9: ret #0x1</font><br align=\"left\"/>> color=grey45 fontcolor=grey45 style=dashed]\n\
 l10 [label=<l10: ldh [2]<br align=\"left\"/>l11: jeq #0x806, l12, l13<br align=\"left\"/>>]\n\
-l10 -> l12 [label=\"true 2\"]\n\
-l10 -> l13 [label=\"false 1\"]\n\
+l10 -> l12 [label=\" true 2 \"]\n\
+l10 -> l13 [label=\" false 1 \"]\n\
 l12 [label=<l12: ret #0x40000<br align=\"left\"/>>]\n\
 l13 [label=<l13: ret #0<br align=\"left\"/>>]\n\
 fail0 [label=\"fail, outside the packet\" shape=oval style=filled fillcolor=lightsalmon]\n\
-l0 -> fail0 [label=\"1\"]\n\
+l0 -> fail0 [label=\" 1 \"]\n\
 fail2 [label=\"fail, division by 0\" shape=oval style=filled fillcolor=lightsalmon]\n\
-l2 -> fail2 [label=\"1\"]\n\
+l2 -> fail2 [label=\" 1 \"]\n\
 unknown5 [label=\"unknown, mark has no value\" shape=oval style=filled fillcolor=khaki]\n\
-l5 -> unknown5 [label=\"1\"]\n\
+l5 -> unknown5 [label=\" 1 \"]\n\
 fail10 [label=\"fail, outside the packet\" shape=oval style=filled fillcolor=lightsalmon]\n\
-l10 -> fail10 [label=\"1\"]\n\
+l10 -> fail10 [label=\" 1 \"]\n\
 pass12 [label=\"pass\" shape=oval style=filled fillcolor=palegreen]\n\
-l12 -> pass12 [label=\"2\"]\n\
+l12 -> pass12 [label=\" 2 \"]\n\
 fail13 [label=\"fail\" shape=oval style=filled fillcolor=lightsalmon]\n\
-l13 -> fail13 [label=\"1\"]\n\
+l13 -> fail13 [label=\" 1 \"]\n\
 }\n";
 
 /// A return at which packets pass and others fail, after `l2`, where one way goes on with the next instruction.
@@ -203,17 +207,21 @@ l3:\tret a\tA 9 (0x9) X 0 (0x0)\n\
 pass at l1:\tjset #0x1, l3, l2, true with A 9 (0x9) X 0 (0x0), then l3:\tret a\n";
 
 const RET_A_GRAPH: &[u8] = b"digraph filter {\n\
+graph [fontname=monospace labelloc=t]\n\
 node [shape=box fontname=monospace]\n\
+edge [fontname=monospace]\n\
+packets [shape=plaintext]\n\
+packets -> l0 [label=\" 4 \"]\n\
 l0 [label=<l0: ldb [0]<br align=\"left\"/>l1: jset #0x1, l3, l2<br align=\"left\"/>>]\n\
-l0 -> l3 [label=\"true 2\"]\n\
-l0 -> l2 [label=\"false 2\"]\n\
+l0 -> l3 [label=\" true 2 \"]\n\
+l0 -> l2 [label=\" false 2 \"]\n\
 l2 [label=<l2: ldxb 4*([0]&amp;0xf)<br align=\"left\"/>>]\n\
-l2 -> l3 [label=\"2\"]\n\
+l2 -> l3 [label=\" 2 \"]\n\
 l3 [label=<l3: ret a<br align=\"left\"/>>]\n\
 pass3 [label=\"pass\" shape=oval style=filled fillcolor=palegreen]\n\
-l3 -> pass3 [label=\"3\"]\n\
+l3 -> pass3 [label=\" 3 \"]\n\
 fail3 [label=\"fail\" shape=oval style=filled fillcolor=lightsalmon]\n\
-l3 -> fail3 [label=\"1\"]\n\
+l3 -> fail3 [label=\" 1 \"]\n\
 }\n";
 
 /// No packet.
@@ -221,8 +229,12 @@ const NONE: &[u8] = b"\xd4\xc3\xb2\xa1\x02\x00\x04\x00\x00\x00\x00\x00\x00\x00\x
 \xff\xff\x00\x00\x01\x00\x00\x00";
 
 const NONE_GRAPH: &[u8] = b"digraph filter {\n\
+graph [fontname=monospace labelloc=t]\n\
 node [shape=box fontname=monospace]\n\
-l0 [label=<<font color=\"grey\">l0: ret #0</font><br align=\"left\"/>> color=grey fontcolor=grey]\n\
+edge [fontname=monospace]\n\
+packets [shape=plaintext]\n\
+packets -> l0 [label=\" 0 \" color=grey45 fontcolor=grey45 style=dashed]\n\
+l0 [label=<<font color=\"grey45\">l0: ret #0</font><br align=\"left\"/>> color=grey45 fontcolor=grey45 style=dashed]\n\
 }\n";
 
 /// What is asked, the capture, and the text.

@@ -59,7 +59,7 @@ fn text_of(rt: &impl Test, report: Report) -> Vec<u8> {
             put_numbered(
                 rt,
                 &mut text,
-                b"<font color=\"grey\">l",
+                b"<font color=\"grey45\">l",
                 4094,
                 b": tax</font><br align=\"left\"/>",
             );
@@ -70,16 +70,20 @@ fn text_of(rt: &impl Test, report: Report) -> Vec<u8> {
 }
 
 const GRAPH_HEAD: &[u8] = b"digraph filter {\n\
+graph [fontname=monospace labelloc=t]\n\
 node [shape=box fontname=monospace]\n\
+edge [fontname=monospace]\n\
+packets [shape=plaintext]\n\
+packets -> l0 [label=\" 5000 \"]\n\
 l0 [label=<l0: jmp l4095<br align=\"left\"/>>]\n\
-l0 -> l4095 [label=\"5000\"]\n\
+l0 -> l4095 [label=\" 5000 \"]\n\
 l1 [label=<";
 
-const GRAPH_END: &[u8] = b"> color=grey fontcolor=grey]\n\
-l1 -> l4095 [label=\"0\" color=grey fontcolor=grey]\n\
+const GRAPH_END: &[u8] = b"> color=grey45 fontcolor=grey45 style=dashed]\n\
+l1 -> l4095 [label=\" 0 \" color=grey45 fontcolor=grey45 style=dashed]\n\
 l4095 [label=<l4095: ret #0x1<br align=\"left\"/>>]\n\
 pass4095 [label=\"pass\" shape=oval style=filled fillcolor=palegreen]\n\
-l4095 -> pass4095 [label=\"5000\"]\n\
+l4095 -> pass4095 [label=\" 5000 \"]\n\
 }\n";
 
 #[test]
