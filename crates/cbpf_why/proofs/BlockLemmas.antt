@@ -24,7 +24,7 @@ pub any-more : {X : Type 0} (p : X → Bool) (xs : List X) (y : X) → list_any 
 any-more p [] y = or-false (p y)
 any-more p (x ∷ xs) y = ap (λ b. p x || b) (any-more p xs y) ∙ sym (or-assoc (p x) (list_any p xs) (p y))
 
-enum_at : (list : List Insn) (a i : ℕ) (x : Insn) → slice_get list i ≡ Some x → slice_get (enumerate_from a list) i ≡ Some (a + i, x)
+pub enum_at : (list : List Insn) (a i : ℕ) (x : Insn) → slice_get list i ≡ Some x → slice_get (enumerate_from a list) i ≡ Some (a + i, x)
 enum_at [] a i x h = absurd cc
 enum_at (y ∷ ys) a zero x h =
     let same : y ≡ x = cc in

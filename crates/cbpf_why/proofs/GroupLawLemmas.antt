@@ -37,7 +37,7 @@ both false b h = absurd cc
 row_is : (n i : ℕ) → (n == i) ≡ true → i ≡ n
 row_is n i h = grind arith
 
-itself : (n : ℕ) → (n == n) ≡ true
+pub itself : (n : ℕ) → (n == n) ≡ true
 itself n = grind arith
 
 decided_inside : (m : Machine) → IsSound m.list → (r : Record) → IsInside (length m.list) (decided m r)
@@ -78,7 +78,7 @@ sum_add : (f g : ℕ → ℕ) (n : ℕ) → sum_of_first (λ i. f i + g i) n ≡
 sum_add f g zero = refl
 sum_add f g (suc n) = let rest = sum_add f g n in omega (arith, rest)
 
-sum_zero : (f : ℕ → ℕ) (n : ℕ) → ((i : ℕ) → i < n → f i ≡ 0) → sum_of_first f n ≡ 0
+pub sum_zero : (f : ℕ → ℕ) (n : ℕ) → ((i : ℕ) → i < n → f i ≡ 0) → sum_of_first f n ≡ 0
 sum_zero f zero h = refl
 sum_zero f (suc n) h =
     let rest = sum_zero f n (λ i l. h i (omega (arith, l))) in let one = h n (omega arith) in omega (arith, rest, one)
@@ -104,7 +104,7 @@ sum_one k (suc n) b l =
           rw (rest, last) (omega arith)
     ]
 
-longer : (b : Bool) (x : Decided) (ys : List Decided) → length (if b then x ∷ ys else ys) ≡ (if b then 1 else 0) + length ys
+pub longer : (b : Bool) (x : Decided) (ys : List Decided) → length (if b then x ∷ ys else ys) ≡ (if b then 1 else 0) + length ys
 longer true x ys = omega arith
 longer false x ys = omega arith
 

@@ -10,4 +10,5 @@ pub mod ReportLemmas
 pub mod BlockLemmas
 pub mod StraightLemmas
 pub mod GroupLawLemmas
+pub mod EdgeLemmas
 pub mod LawLemmas

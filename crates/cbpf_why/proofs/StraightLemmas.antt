@@ -188,20 +188,20 @@ nothing (Some b) h = absurd cc
 
 -- ---- an instruction of a checked program
 
-record Found (list : List Insn) (pc : ℕ) : Type 0 where
-  insn : Insn
-  op : Op
-  here : slice_get list pc ≡ Some insn
-  decodes : op_of insn.code ≡ Some op
+pub record Found (list : List Insn) (pc : ℕ) : Type 0 where
+  pub insn : Insn
+  pub op : Op
+  pub here : slice_get list pc ≡ Some insn
+  pub decodes : op_of insn.code ≡ Some op
 
-find : (list : List Insn) (pc : ℕ) → IsSound list → pc < length list → Found list pc
+pub find : (list : List Insn) (pc : ℕ) → IsSound list → pc < length list → Found list pc
 find list pc sound inside =
     let none : Insn = record { code = 0; jt = 0; jf = 0; k = 0 } in
     let here = slice_get-get_or list pc none inside in
     let known = sound_known list pc (get_or list pc none) sound here in
     record { insn = get_or list pc none; op = known.0; here = here; decodes = known.1 }
 
-there_too : (list : List Insn) (x y : ℕ) (insn : Insn) → x ≡ y → slice_get list x ≡ Some insn → slice_get list y ≡ Some insn
+pub there_too : (list : List Insn) (x y : ℕ) (insn : Insn) → x ≡ y → slice_get list x ≡ Some insn → slice_get list y ≡ Some insn
 there_too list x y insn e h = rw e at h
 
 module _ (t : OnPacket) (s : Registers) (insn : Insn) (op : Op) (here : slice_get t.machine.list s.pc ≡ Some insn)
@@ -280,10 +280,10 @@ last_splits p (x ∷ xs) s h =
 
 -- ---- two packets of a checked program
 
-abbrev on : Machine → Record → OnPacket
+abbrev pub on : Machine → Record → OnPacket
 on m r = record { machine = m; bytes = r.bytes; wire = r.wire }
 
-abbrev last_in : OnPacket → Registers
+abbrev pub last_in : OnPacket → Registers
 last_in t = last_or zero_state (trace_in t)
 
 -- from an entry on no entry is at a conditional jump
@@ -294,12 +294,12 @@ abbrev Returns : OnPacket → Type 0
 Returns t = without_value (end_by (turn_in t (last_in t))) ≡ end_is.Returned 0
 
 -- where the last entry stands
-record LastEntry (t : OnPacket) : Type 0 where
-  place : ℕ
-  there : IsOnTrace t place (last_in t)
-  ends : next_of (turn_in t (last_in t)) ≡ None
+pub record LastEntry (t : OnPacket) : Type 0 where
+  pub place : ℕ
+  pub there : IsOnTrace t place (last_in t)
+  pub ends : next_of (turn_in t (last_in t)) ≡ None
 
-last_entry : (t : OnPacket) → IsSound t.machine.list → LastEntry t
+pub last_entry : (t : OnPacket) → IsSound t.machine.list → LastEntry t
 last_entry t sound =
     let run = trace-is_run t sound in
     let some = slice_get_within (trace_in t) 0 zero_state run.first in

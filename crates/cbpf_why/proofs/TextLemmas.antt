@@ -1,7 +1,7 @@
 -- A loop that writes the texts of 0, 1 and so on.
-use Rattle.std.proofs.Common.{◌≡◌, ℕ, zero, suc, ◌+◌, ◌-◌, ◌<◌, List, ◌++◌, Option, arith, refl, ap, ◌∙◌, append_assoc, append-nil}
-use Rattle.cbpf_code.specs.Writing.{Appended, AppendedPart}
-use Rattle.cbpf_code.proofs.WrittenLemmas.{appended-nil, appended-then, part-then, part-more}
+use Rattle.std.proofs.Common.{◌≡◌, ℕ, zero, suc, ◌+◌, ◌-◌, ◌<◌, List, [], ◌++◌, Option, Result, arith, refl, ap, ◌∙◌, append_assoc, append-nil}
+use Rattle.cbpf_code.specs.Writing.{Appended, AppendedPart, Wrote}
+use Rattle.cbpf_code.proofs.WrittenLemmas.{appended-nil, appended-then, part-then, part-more, wrote-then}
 use Rattle.cbpf_reply.specs.Packet.{texts_from}
 
 texts-add : (f : ℕ → List ℕ) (a m n : ℕ) → texts_from f a (m + n) ≡ texts_from f a m ++ texts_from f (a + m) n
@@ -40,3 +40,8 @@ pub ruleset texts = (texts-init, texts-next, texts-stop, texts-done)
 pub texts-same : (f g : ℕ → List ℕ) → ((i : ℕ) → f i ≡ g i) → (a n : ℕ) → texts_from f a n ≡ texts_from g a n
 texts-same f g h a zero = refl
 texts-same f g h a (suc n) = ap (λ t. t ++ texts_from f (suc a) n) (h a) ∙ ap (λ t. g a ++ t) (texts-same f g h (suc a) n)
+
+-- two texts of a list of texts
+pub wrote-both : {A E : Type 0} (u v w : Option (List ℕ)) (a b : List ℕ) (r : Result A E) → Appended u v a → Wrote v w r b
+    → Wrote u w r (a ++ (b ++ []))
+wrote-both u v w a b r x y = rw (append-nil b) (wrote-then u v w a b r x y)

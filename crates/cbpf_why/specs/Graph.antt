@@ -14,6 +14,7 @@ use Rattle.cbpf_code.specs.declared.insn.Insn.{Insn}
 use Rattle.cbpf_code.specs.declared.opcode.Op.{Op}
 use Rattle.cbpf_code.specs.declared.opcode.Op.TheVariants.{Ja, Jump, RetK, RetA}
 use Rattle.cbpf_machine.specs.Machine.{Machine}
+use Rattle.cbpf_machine.specs.declared.tally.Runs.{Runs}
 use Rattle.cbpf_reply.specs.Packet.{texts_from}
 use Rattle.pcap_classic.specs.Records.{Record}
 use Rattle.cbpf_why.specs.declared.ended.Decided.{Decided}
@@ -111,20 +112,35 @@ facts_at m records ends i =
 abbrev pub ended_in : Facts → ℕ
 ended_in f = f.passed.count + f.failed.count + f.unknown.count
 
+-- an edge from a block: the instruction to which it leads, the word in its label, and how often it was taken
+pub record Edge : Type 0 where
+  pub to : ℕ
+  pub word : List ℕ
+  pub count : ℕ
+
+-- those of a conditional jump
+abbrev pub both_edges : ℕ → Insn → Runs → List Edge
+both_edges i insn runs =
+    record { to = i + 1 + insn.jt; word = codes "true "; count = runs.taken }
+    ∷ record { to = i + 1 + insn.jf; word = codes "false "; count = runs.executed - runs.taken } ∷ []
+
 -- the edges from the last instruction of a block, of this operation
-abbrev pub edges_by : ℕ → ℕ → Insn → Facts → Option Op → List ℕ
-edges_by block i insn f None = []
-edges_by block i insn f (Some Ja) = edge block (i + 1 + insn.k) [] f.runs.executed
-edges_by block i insn f (Some (Jump cond src)) =
-    edge block (i + 1 + insn.jt) (codes "true ") f.runs.taken ++ edge block (i + 1 + insn.jf) (codes "false ") (f.runs.executed - f.runs.taken)
-edges_by block i insn f (Some RetK) = []
-edges_by block i insn f (Some RetA) = []
-edges_by block i insn f (Some op) = edge block (i + 1) [] (f.runs.executed - ended_in f)
+abbrev pub edges_by : ℕ → Insn → Facts → Option Op → List Edge
+edges_by i insn f None = []
+edges_by i insn f (Some Ja) = record { to = i + 1 + insn.k; word = []; count = f.runs.executed } ∷ []
+edges_by i insn f (Some (Jump cond src)) = both_edges i insn f.runs
+edges_by i insn f (Some RetK) = []
+edges_by i insn f (Some RetA) = []
+edges_by i insn f (Some op) = record { to = i + 1; word = []; count = f.runs.executed - ended_in f } ∷ []
 
 -- the edges from an instruction at the end of a block
-abbrev pub edges_of : ℕ → ℕ → Facts → Option Insn → List ℕ
-edges_of block i f None = []
-edges_of block i f (Some insn) = edges_by block i insn f (op_of insn.code)
+abbrev pub edges_of : ℕ → Facts → Option Insn → List Edge
+edges_of i f None = []
+edges_of i f (Some insn) = edges_by i insn f (op_of insn.code)
+
+-- edges from a block, as they are written
+abbrev pub edges_text : ℕ → List Edge → List ℕ
+edges_text block edges = flat_map (λ e. edge block e.to e.word e.count) edges
 
 -- how a block begins and ends
 abbrev pub block_head : ℕ → List ℕ
@@ -136,7 +152,7 @@ block_end count = concat (codes ">" ∷ grey_where_none count ∷ codes "]\n" �
 
 -- the end of a block, and the edges from its last instruction
 abbrev pub end_and_edges : ℕ → List Insn → ℕ → Facts → List ℕ
-end_and_edges block list i f = block_end f.block_runs ++ edges_of block i f (slice_get list i)
+end_and_edges block list i f = block_end f.block_runs ++ edges_text block (edges_of i f (slice_get list i))
 
 -- an instruction's line; before it the begin of its block, where it is the first one there; and after it the end of the
 -- block and the edges from it, where it is the last one

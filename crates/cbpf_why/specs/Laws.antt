@@ -1,7 +1,7 @@
 -- What the verdicts and the totals of a report are, by the outcomes of packets (Linux Documentation/networking/filter: a
--- packet passes where a run of the filter on it returns a number other than 0); that a text is one filter or none; and
--- what the packets of a group share.
-use Rattle.std.specs.Prelude.{◌≡◌, ◌≢◌, ◌⊎◌, ◌<◌, ◌*◌, ◌+◌, ℕ, zero, suc, true, List, length}
+-- packet passes where a run of the filter on it returns a number other than 0); that a text is one filter or none; what
+-- the packets of a group share; and that the counts of a graph agree.
+use Rattle.std.specs.Prelude.{◌≡◌, ◌≢◌, ◌⊎◌, ◌<◌, ◌*◌, ◌+◌, ◌==◌, ℕ, zero, suc, true, All, List, length, slice_get, sum_by, if◌then◌else◌}
 use Rattle.cbpf_code.specs.Sound.{IsSound}
 use Rattle.cbpf_code.specs.declared.insn.Insn.{Insn}
 use Rattle.cbpf_machine.specs.declared.outcome.End.{End}
@@ -14,8 +14,10 @@ use Rattle.cbpf_why.specs.declared.ended.Decided.{Decided}
 use Rattle.cbpf_why.specs.declared.ended.Verdict.{Verdict}
 use Rattle.cbpf_why.specs.declared.filter.FilterFault.{FilterFault, TheVariants.Memory}
 use Rattle.cbpf_why.specs.Filters.{IsFilter, IsNoFilter}
-use Rattle.cbpf_why.specs.Ends.{decided, decided_of, ended, ends_of, kind_of, verdict_of}
+use Rattle.cbpf_why.specs.Ends.{alone_of, decided, decided_of, ended, ends_of, kind_of, verdict_of}
+use Rattle.cbpf_why.specs.Graph.{Edge, block_of, edges_of, ended_in, facts_at, is_last}
 use Rattle.cbpf_why.specs.Groups.{count_of, group, is_in_group, row, totals}
+use Rattle.cbpf_why.specs.Runs.{executed}
 
 -- the verdict on a packet is the kind of its outcome
 abbrev pub VerdictIsOutcome : Type 0
@@ -83,3 +85,30 @@ pub record SameEnd (d e : Decided) : Type 0 where
 abbrev pub GroupsEndAlike : Type 0
 GroupsEndAlike = (m : Machine) → IsSound m.list → (i : ℕ) (v : Verdict) (r s : Record)
     → is_in_group i v (decided m r) ≡ true → is_in_group i v (decided m s) ≡ true → SameEnd (decided m r) (decided m s)
+
+-- ---- the graph
+
+-- the edges from an instruction at the end of a block, as the graph of some records has them
+abbrev pub edges_at : Machine → List Record → ℕ → List Edge
+edges_at m records i = edges_of i (facts_at m records (alone_of m records) i) (slice_get m.list i)
+
+-- how many packets ended at an instruction, where it is one of a block
+abbrev pub ended_in_block : Machine → List Record → ℕ → ℕ → ℕ
+ended_in_block m records block j =
+    if block_of m.list j == block then ended_in (facts_at m records (alone_of m records) j) else 0
+
+-- the runs of a block are the counts of the edges from it and of the packets that ended in it
+abbrev pub BlocksSum : Type 0
+BlocksSum = (m : Machine) → IsSound m.list → (records : List Record) (i : ℕ) → i < length m.list → is_last m.list i ≡ true
+    → executed m records (block_of m.list i)
+    ≡ sum_by (λ e. e.count) (edges_at m records i)
+    + sum_of_first (ended_in_block m records (block_of m.list i)) (length m.list)
+
+-- an edge leads to the first instruction of a block, whose name the block's node has
+abbrev pub LeadsToBlock : List Insn → Edge → Type 0
+LeadsToBlock list e = (e.to < length list) × (block_of list e.to ≡ e.to)
+
+-- all edges do
+abbrev pub EdgesLead : Type 0
+EdgesLead = (m : Machine) → IsSound m.list → (records : List Record) (i : ℕ) → i < length m.list → is_last m.list i ≡ true
+    → All (LeadsToBlock m.list) (edges_at m records i)

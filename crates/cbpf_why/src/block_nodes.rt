@@ -153,8 +153,7 @@ fn write_both_edges<W: Write>(
     runs: Runs,
 ) -> Result<(), WriteFault>
     ensures { Wrote (W.contents w.old) (W.contents w.new) result
-        (spec.edge block (i + 1 + insn.jt) (codes "true ") runs.taken
-        ++ spec.edge block (i + 1 + insn.jf) (codes "false ") (runs.executed - runs.taken)) }
+        (spec.edges_text block (spec.both_edges i insn runs)) }
 {
     let next = u64::from(i) + 1;
     write_edge(w, block, next + u64::from(insn.jt), b"true ", runs.taken)?;
@@ -170,7 +169,8 @@ fn write_edges<W: Write>(
     insn: Insn,
     facts: &Facts,
 ) -> Result<(), WriteFault>
-    ensures { Wrote (W.contents w.old) (W.contents w.new) result (spec.edges_by block i insn facts.now (op_of insn.code)) }
+    ensures { Wrote (W.contents w.old) (W.contents w.new) result
+        (spec.edges_text block (spec.edges_by i insn facts.now (op_of insn.code))) }
 {
     let next = u64::from(i) + 1;
     let count = facts.runs.executed;

@@ -2,6 +2,7 @@
 
 ghost use Rattle.cbpf_why.specs.Laws.{VerdictIsOutcome, TotalsCountOutcomes};
 ghost use Rattle.cbpf_why.specs.Laws.{EachAnswered, NeverBoth, OneProgram, OneReason};
+ghost use Rattle.cbpf_why.specs.Laws.{BlocksSum, EdgesLead};
 ghost use Rattle.cbpf_why.specs.Laws.{EachInOneGroup, GroupsEndAlike, GroupsSumToTotals};
 
 /// The verdict on a packet is the kind of the outcome that a run of the program on the packet has. So the totals of a
@@ -27,4 +28,11 @@ pub fn laws_of_groups()
     ensures once { EachInOneGroup }
     ensures sums { GroupsSumToTotals }
     ensures alike { GroupsEndAlike }
+{}
+
+/// In the graph of a checked program each block's runs are the counts of the edges from it and of the packets that ended in
+/// it. Each edge leads to a node, which is that of the block that begins there.
+pub fn laws_of_graphs()
+    ensures sums { BlocksSum }
+    ensures leads { EdgesLead }
 {}

@@ -25,6 +25,6 @@ pub use ended::{Ended, Verdict};
 pub use equality::equal_where_same;
 pub use filter::{FilterFault, program_of};
 pub use job::{CaptureEnd, WhyFault, why};
-pub use law::{laws_of_groups, one_filter, totals_of_outcomes};
+pub use law::{laws_of_graphs, laws_of_groups, one_filter, totals_of_outcomes};
 pub use question::Question;
 pub use report::Report;
