@@ -42,6 +42,9 @@ PLACES = {name: EXTENSIONS + 4 * place for place, name in enumerate(NAMES) if na
 COMPARED = {0x15: operator.eq, 0x25: operator.gt, 0x35: operator.ge, 0x45: operator.and_}
 BY_X = 0x08
 DIVISIONS_BY_X = [0x3C, 0x9C]
+# How many bytes a load takes, by its code, and the codes of those that add X.
+LOADED = {0x20: 4, 0x28: 2, 0x30: 1, 0x40: 4, 0x48: 2, 0x50: 1, 0xB1: 1}
+INDEXED = [0x40, 0x48, 0x50]
 VERDICTS = {"pass": "palegreen", "fail": "lightsalmon", "unknown": "khaki"}
 GRAPH_HEAD = """\
 digraph filter {
@@ -76,13 +79,14 @@ class End(NamedTuple):
 
 class Debugged(NamedTuple):
     """What the debugger says of a program over a capture: the listing's lines, the reply to `load pcap`, the one to
-    `run`, and the trace of each packet."""
+    `run`, and the trace of each packet. The lengths are how many bytes of each were captured, of how many."""
 
     program: list
     listing: list
     loaded: str
     totals: str
     traces: list
+    lengths: list
 
     def end(self, trace):
         last = trace[-1]
@@ -115,6 +119,20 @@ class Debugged(NamedTuple):
         if not tests or not self.end(trace).returned:
             return None
         return tests[-1], "true" if self.holds(tests[-1]) else "false"
+
+    def wanted(self, number):
+        """What a load wanted that ended a packet outside it."""
+        last, (captured, wire) = self.traces[number - 1][-1], self.lengths[number - 1]
+        code, _, _, k = self.program[last.pc]
+        at, size = (last.x + k) % 2**32 if code in INDEXED else k, LOADED[code]
+        wanted = f"byte {at}" if size == 1 else f"bytes {at} to {at + size - 1}"
+        return f": {wanted}, captured {captured} of {wire}"
+
+    def filled(self, pc):
+        """The line of an instruction, filled up to the longest one."""
+        label, text = self.listing[pc].split("\t")
+        longest = max(len(line) - line.index("\t") - 1 for line in self.listing)
+        return f"{label}\t{text:{longest}}"
 
     def counts(self):
         """How often each instruction ran, and how often its comparison held."""
@@ -157,9 +175,11 @@ def way_of_packet(found, number):
     yield f"packet {number}"
     for step, after in zip_longest(trace, trace[1:]):
         to = f"\tto l{after.pc}" if after and found.program[step.pc][0] in [JA, *JUMPS] else ""
-        yield f"{found.listing[step.pc]}\t{registers(step)}{to}"
+        yield f"{found.filled(step.pc)}\t{registers(step)}{to}"
     end = found.end(trace)
     went = found.listing[end.pc] + ("" if end.returned else f", {end.why}")
+    if end.why == "outside the packet":
+        went += found.wanted(number)
     if decided := found.decided(trace):
         test, direction = decided
         went = f"{found.listing[test.pc]}, {direction} with {registers(test)}, then {went}"
@@ -168,9 +188,10 @@ def way_of_packet(found, number):
 
 def coverage(found):
     ran, held = found.counts()
+    wide = len(str(max(ran.values(), default=0)))
     for pc, (code, *_) in enumerate(found.program):
-        ways = f"\ttrue {held[pc]} false {ran[pc] - held[pc]}" if code in JUMPS else ""
-        yield f"{ran[pc]}\t{found.listing[pc]}{ways}"
+        ways = f"\ttrue {held[pc]:{wide}} false {ran[pc] - held[pc]:{wide}}" if code in JUMPS else ""
+        yield f"{ran[pc]:{wide}}\t{found.filled(pc) if ways else found.listing[pc]}{ways}"
 
 
 def blocks(program):
@@ -327,6 +348,16 @@ def trace_by_packet(lines, count):
     return traces
 
 
+def lengths_of(capture, count):
+    """How many bytes of each of so many packets of a capture were captured, of how many."""
+    order = "<" if int.from_bytes(capture[:4], "little") in (MICROSECONDS, NANOSECONDS) else ">"
+    at = 24
+    for _ in range(count):
+        captured, wire = struct.unpack_from(f"{order}8xII", capture, at)
+        yield captured, wire
+        at += 16 + captured
+
+
 def debugged(program, folder, insns, values, most):
     """What the debugger says of a program over the capture in the folder, which has so many packets at most, or how it
     refuses the program. A run stops at each packet that asks for an extension without a value."""
@@ -341,7 +372,8 @@ def debugged(program, folder, insns, values, most):
     last = next(at for at, line in enumerate(said) if line.startswith("stops: "))
     totals = next(line for line in said[last:] if line.startswith("bpf passes:"))
     traces = trace_by_packet(said[at + size : last], int(loaded.split()[1]))
-    return Debugged(insns, said[len(begin) : at], loaded, totals, traces)
+    lengths = list(lengths_of((folder / "capture").read_bytes(), len(traces)))
+    return Debugged(insns, said[len(begin) : at], loaded, totals, traces, lengths)
 
 
 def filter_text(draw, insns, listing):

@@ -25,14 +25,14 @@ fail 1 at l1:\tjeq #0x806, l2, l3, false, then l3:\tret #0, first packet 2\n\
 bpf passes:1 fails:1\n";
 
 const ARP_TRACES: &[u8] = b"packet 1\n\
-l0:\tldh [12]\tA 0 (0x0) X 0 (0x0)\n\
+l0:\tldh [12]          \tA 0 (0x0) X 0 (0x0)\n\
 l1:\tjeq #0x806, l2, l3\tA 2054 (0x806) X 0 (0x0)\tto l2\n\
-l2:\tret #0xffffffff\tA 2054 (0x806) X 0 (0x0)\n\
+l2:\tret #0xffffffff   \tA 2054 (0x806) X 0 (0x0)\n\
 pass at l1:\tjeq #0x806, l2, l3, true with A 2054 (0x806) X 0 (0x0), then l2:\tret #0xffffffff\n\
 packet 2\n\
-l0:\tldh [12]\tA 0 (0x0) X 0 (0x0)\n\
+l0:\tldh [12]          \tA 0 (0x0) X 0 (0x0)\n\
 l1:\tjeq #0x806, l2, l3\tA 2048 (0x800) X 0 (0x0)\tto l3\n\
-l3:\tret #0\tA 2048 (0x800) X 0 (0x0)\n\
+l3:\tret #0            \tA 2048 (0x800) X 0 (0x0)\n\
 fail at l1:\tjeq #0x806, l2, l3, false with A 2048 (0x800) X 0 (0x0), then l3:\tret #0\n";
 
 pub(crate) const ARP_LINES: &[u8] =
@@ -65,7 +65,7 @@ pub(crate) type Reported = (Report, &'static [u8], [usize; 3]);
 
 pub(crate) static ARP_REPORTS: [Reported; 5] = [
     (Report::Summary, ARP_SUMMARY, [0, 0, 0]),
-    (Report::Traces, ARP_TRACES, [0, 234, 451]),
+    (Report::Traces, ARP_TRACES, [0, 247, 486]),
     (Report::Packets, ARP_LINES, [0, 29, 50]),
     (Report::Coverage, ARP_COVERAGE, [0, 0, 0]),
     (Report::Graph, ARP_GRAPH, [0, 0, 0]),

@@ -19,6 +19,7 @@ use Rattle.cbpf_machine.specs.declared.outcome.End.{End}
 use Rattle.cbpf_machine.specs.declared.outcome.End.TheVariants.{Returned, Outside, ZeroDivisor, Unknown}
 use Rattle.pcap_classic.specs.Records.{Record}
 use Rattle.cbpf_why.specs.Ends.{alone, alone_of, decided, decided_of, deciding, end_by, ended, ended_at}
+use Rattle.cbpf_why.specs.Columns.{IsLongest}
 use Rattle.cbpf_why.specs.Job.{Tallies, Took, counts_groups, counts_runs, kept_end, kept_ends, where_counted}
 use Rattle.cbpf_why.specs.Question.{machine_in}
 use Rattle.cbpf_why.specs.Runs.{executed, taken}
@@ -87,22 +88,24 @@ tallies-more old new m records r had packets long ran held = record {
 module _ {A P : Type 0} (q : Question P) where
   -- a packet more in the groups
   pub took-groups : (old new : Counted A) (records : List Record) (r : Record) → q.report ≡ Summary → Took q old records
-      → new.tally ≡ old.tally
+      → new.tally ≡ old.tally → new.longest ≡ old.longest
       → KeepsAll new.groups (length q.program.now) (kept_ends Summary (machine_in q) records ++ decided (machine_in q) r ∷ [])
       → Took q new (records ++ r ∷ [])
-  took-groups old new records r s t same keeps = record {
+  took-groups old new records r s t same long keeps = record {
     groups = rw (s, kept_ends-more Summary (machine_in q) records r) keeps;
     runs = rw (s, same) (rw s at t.runs);
+    longest = rw long t.longest;
   }
 
   -- and in the tally
   pub took-both : (new : Counted A) (records : List Record) (r : Record) → counts_groups q.report ≡ true
       → counts_runs q.report ≡ true
       → KeepsAll new.groups (length q.program.now) (kept_ends q.report (machine_in q) records ++ alone (machine_in q) r ∷ [])
-      → Tallies new.tally (machine_in q) (records ++ r ∷ []) → Took q new (records ++ r ∷ [])
-  took-both new records r g s keeps tallies = record {
+      → Tallies new.tally (machine_in q) (records ++ r ∷ []) → IsLongest new.longest q.program.now → Took q new (records ++ r ∷ [])
+  took-both new records r g s keeps tallies long = record {
     groups = rw (g, kept_ends-more q.report (machine_in q) records r, kept-alone q.report (machine_in q) r s) keeps;
     runs = rw s tallies;
+    longest = long;
   }
 
   -- what was kept of the records, where it is counted
@@ -128,10 +131,11 @@ length-kept report m (x ∷ xs) = let rest = length-kept report m xs in omega (a
 
 -- nothing is counted yet
 pub took-nothing : {A P : Type 0} (q : Question P) (c : Counted A) → KeepsAll c.groups (length q.program.now) []
-    → Tallies c.tally (machine_in q) [] → Took q c []
-took-nothing q c keeps tallies = record {
+    → Tallies c.tally (machine_in q) [] → IsLongest c.longest q.program.now → Took q c []
+took-nothing q c keeps tallies long = record {
   groups = rw (none (counts_groups q.report)) keeps;
   runs = rw (none (counts_runs q.report)) tallies;
+  longest = long;
 }
   where
     none : (b : Bool) → where_counted b [] ≡ []

@@ -1,5 +1,6 @@
 pub mod StepLemmas
 pub mod TextLemmas
+pub mod ColumnLemmas
 pub mod GroupLemmas
 pub mod FilterLemmas
 pub mod CountedLemmas

@@ -13,6 +13,7 @@ use Rattle.cbpf_why.specs.declared.question.Question.{Question}
 use Rattle.cbpf_why.specs.declared.report.Report.{Report}
 use Rattle.cbpf_why.specs.declared.report.Report.TheVariants.{Summary, Traces, Packets, Coverage, Graph}
 use Rattle.cbpf_why.specs.Chosen.{chosen}
+use Rattle.cbpf_why.specs.Columns.{IsLongest}
 use Rattle.cbpf_why.specs.Ends.{alone, decided}
 use Rattle.cbpf_why.specs.Groups.{KeepsAll}
 use Rattle.cbpf_why.specs.Question.{machine_in}
@@ -59,10 +60,11 @@ pub record Tallies (t : CountedRuns) (m : Machine) (records : List Record) : Typ
   pub long : length t.runs ≡ length m.list
   pub runs : (i : ℕ) → runs_at t.runs i ≡ record { executed = executed m records i; taken = taken m records i }
 
--- what is counted of the records that were taken
+-- what is counted of the records that were taken, and the length of the program's longest instruction
 pub record Took {A P : Type 0} (q : Question P) (c : Counted A) (records : List Record) : Type 0 where
   pub groups : KeepsAll c.groups (length q.program.now) (kept_ends q.report (machine_in q) (where_counted (counts_groups q.report) records))
   pub runs : Tallies c.tally (machine_in q) (where_counted (counts_runs q.report) records)
+  pub longest : IsLongest c.longest q.program.now
 
 -- the records of a list whose number isn't below a first one
 abbrev pub from_first : ℕ → List Record → List Record

@@ -2,6 +2,7 @@ pub mod Filters
 pub mod Chosen
 pub mod Ends
 pub mod Operations
+pub mod Columns
 pub mod Traces
 pub mod Packets
 pub mod Groups

@@ -4,12 +4,14 @@ ghost use Rattle.std.specs.Prelude.{◌≡◌, ◌<◌, ◌+◌, ◌^◌, ◌++�
 ghost use Rattle.cbpf_machine.specs.Machine.{Machine};
 ghost use Rattle.pcap_classic.specs.Lent.{record_of};
 ghost use Rattle.pcap_classic.specs.Records.{Record};
+ghost use Rattle.cbpf_why.specs.Columns.{IsLongest};
 ghost use Rattle.cbpf_why.specs.Ends.{decided, ended};
 ghost use Rattle.cbpf_why.specs.Groups.{IsInside, KeepsAll};
 ghost use Rattle.cbpf_why.specs.Job as spec;
 ghost use Rattle.cbpf_why.specs.Question.{machine_in};
 ghost use Rattle.cbpf_why.specs.declared.report.Report.TheVariants.{Summary};
 
+use crate::columns::longest;
 use crate::ended::{Decided, Ended};
 use crate::groups::Groups;
 use crate::question::Question;
@@ -19,21 +21,25 @@ use cbpf_reply::task_of;
 use pcap_classic::Captured;
 use std::alloc::{AllocError, Allocator};
 
-/// What is counted of packets.
+/// What is counted of packets, and where the columns of their traces stand.
 #[derive(Drop)]
 pub(crate) struct Counted<A: Allocator> {
     pub(crate) groups: Groups<A>,
     pub(crate) tally: Tally<A>,
+    /// The length of the program's longest instruction.
+    pub(crate) longest: usize,
 }
 
 impl<A: Allocator + Copy> Counted<A> {
     pub(crate) fn new<P: Allocator>(alloc: A, p: &Program<P>) -> Result<Counted<A>, AllocError>
         ensures groups { IfOk result (λ c. KeepsAll c.groups (length p.now) []) }
         ensures tally { IfOk result (λ c. (m : Machine) → m.list ≡ p.now → spec.Tallies c.tally m []) }
+        ensures longest { IfOk result (λ c. IsLongest c.longest p.now) }
     {
         Ok(Counted {
             groups: Groups::new(alloc, p.len())?,
             tally: Tally::new(alloc, p)?,
+            longest: longest(p),
         })
     }
 }

@@ -4,6 +4,7 @@
 mod block_nodes;
 mod blocks;
 mod chosen;
+mod columns;
 mod counted;
 mod coverage;
 mod end_nodes;

@@ -60,7 +60,7 @@ fn take_packet<P: Allocator, A: Allocator + Copy, W: Write>(
         → OnOk result (spec.Took question.now counted.new (records ++ record_of item.now ∷ [])) }
 {
     match question.report {
-        Report::Traces => write_trace(w, question.program, question.values, item),
+        Report::Traces => write_trace(w, question.program, counted.longest, question.values, item),
         Report::Packets => write_line_of(question, w, item),
         Report::Summary => {
             add_ended::<P, A, 4>(question, counted, item);

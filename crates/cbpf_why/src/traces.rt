@@ -1,20 +1,24 @@
 //! The trace of a packet.
 
-ghost use Rattle.std.specs.Prelude.{◌≡◌, ◌<◌, ◌≤◌, ◌+◌, ◌++◌, length, IfOk, IfSome, Some, option_map, if◌then◌else◌};
+ghost use Rattle.std.specs.Prelude.{◌≡◌, ◌<◌, ◌≤◌, ◌+◌, ◌++◌, length, IfOk, IfSome, Some, None, option_map, if◌then◌else◌};
 ghost use Rattle.std.specs.List.{flat_map};
 ghost use Rattle.cbpf_code.specs.Writing.{Wrote};
 ghost use Rattle.cbpf_code.specs.declared.writing.TheConstants.{LINE_SIZE};
 ghost use Rattle.cbpf_machine.specs.Machine.{machine_of};
-ghost use Rattle.cbpf_machine.specs.Trace.{next_of, trace};
+ghost use Rattle.cbpf_machine.specs.Registers.{zero_state};
+ghost use Rattle.cbpf_machine.specs.Trace.{last_or, next_of, trace};
+ghost use Rattle.cbpf_machine.specs.Turn as turns;
 ghost use Rattle.cbpf_machine.specs.Choices.{is_test_at, last_test};
 ghost use Rattle.pcap_classic.specs.Lent.{record_of};
+ghost use Rattle.cbpf_why.specs.Columns.{IsLongest};
 ghost use Rattle.cbpf_why.specs.Ends as ends;
 ghost use Rattle.cbpf_why.specs.Operations.{is_op_at};
 ghost use Rattle.cbpf_why.specs.Operations as operations;
 ghost use Rattle.cbpf_why.specs.Traces as spec;
 
+use crate::columns::prepend_filled;
 use crate::ended::{Ended, deciding, prepend_reason_after, prepend_test, prepend_verdict};
-use cbpf_code::{Line, Op, Program, WriteFault, op_of, prepend_line, write_with_number};
+use cbpf_code::{Line, Op, Program, Size, WriteFault, op_of, prepend_line, write_with_number};
 use cbpf_machine::{Choice, End, Meter, State, Turn, Values, turn};
 use cbpf_reply::packet_of;
 use pcap_classic::Captured;
@@ -59,11 +63,13 @@ fn is_jump<A: Allocator>(p: &Program<A>, i: u32) -> bool
 fn write_step<W: Write, A: Allocator>(
     w: &mut W,
     p: &Program<A>,
+    long: usize,
     s: &State,
     next: &Option<State>,
 ) -> Result<(), WriteFault>
-    requires { s.now.pc < length p.now }
-    ensures { Wrote (W.contents w.old) (W.contents w.new) result (spec.step_line p.now s.now next.now) }
+    requires inside { s.now.pc < length p.now }
+    requires few { long ≤ 77 }
+    ensures { Wrote (W.contents w.old) (W.contents w.new) result (spec.step_line p.now long s.now next.now) }
 {
     let mut line = Line::new();
     line.prepend(b"\n");
@@ -75,7 +81,7 @@ fn write_step<W: Write, A: Allocator>(
     }
     prepend_registers(&mut line, s.a(), s.x());
     line.prepend(b"\t");
-    prepend_line(&mut line, p, s.pc());
+    prepend_filled(&mut line, p, s.pc(), long);
     line.write(w)
 }
 
@@ -117,24 +123,29 @@ fn test_after<A: Allocator>(
     }
 }
 
-/// How a packet ended, and its last conditional jump with the state before it.
+/// How a packet ended, with X before its last instruction, and its last conditional jump with the state before it.
 #[derive(Drop)]
 struct Traced {
     ended: Ended,
+    x: u32,
     test: Option<(Choice, State)>,
 }
 
-/// Writes each instruction that a packet executes.
+/// Writes each instruction that a packet executes, filled up to a length.
 fn write_steps<W: Write, A: Allocator>(
     w: &mut W,
     p: &Program<A>,
+    long: usize,
     values: &Values,
     item: &Captured<'_>,
 ) -> Result<Traced, WriteFault>
+    requires few { long ≤ 77 }
     ensures wrote { Wrote (W.contents w.old) (W.contents w.new) result
-        (flat_map (spec.step_text (machine_of p.now values.now) (record_of item.now))
+        (flat_map (spec.step_text long (machine_of p.now values.now) (record_of item.now))
         (trace (machine_of p.now values.now) item.now.bytes.now item.now.wire)) }
     ensures ended { IfOk result (λ traced. traced.ended ≡ ends.ended (machine_of p.now values.now) (record_of item.now)) }
+    ensures x { IfOk result (λ traced. traced.x
+        ≡ (last_or zero_state (trace (machine_of p.now values.now) item.now.bytes.now item.now.wire)).x) }
     ensures test { IfOk result (λ traced. traced.test ≡ option_map (spec.test_of p.now)
         (last_test p.now (trace (machine_of p.now values.now) item.now.bytes.now item.now.wire))) }
 {
@@ -147,7 +158,7 @@ fn write_steps<W: Write, A: Allocator>(
         test = test_after(p, &s, test);
         let made = turn(&mut meter, p, packet, values, &s);
         let next = next_state(&made);
-        write_step(w, p, &s, &next)?;
+        write_step(w, p, long, &s, &next)?;
         match next {
             Some(next) => s = next,
             None => {
@@ -156,53 +167,144 @@ fn write_steps<W: Write, A: Allocator>(
                     pc: s.pc(),
                     reason: end_by(&made),
                 };
-                return Ok(Traced { ended, test });
+                return Ok(Traced {
+                    ended,
+                    x: s.x(),
+                    test,
+                });
             }
         }
     }
+}
+
+/// How many bytes a load of this size takes.
+fn width(size: Size) -> u32
+    ensures { result ≡ turns.width size }
+{
+    match size {
+        Size::Word => 4,
+        Size::Half => 2,
+        Size::Byte => 1,
+    }
+}
+
+/// The bytes of a packet that the instruction at index `i` loads, with this X before it: the offset of the first one, and
+/// how many there are.
+fn loaded_bytes<A: Allocator>(p: &Program<A>, i: u32, x: u32) -> Option<(u32, u32)>
+    requires { i < length p.now }
+    ensures value { result ≡ spec.loaded_at p.now i x }
+    ensures some { IfSome result (λ b. 0 < b.1) }
+{
+    let insn = p.at_index(i);
+    match op_of(insn.code) {
+        Some(Op::LdAbs(size)) => Some((insn.k, width(size))),
+        Some(Op::LdInd(size)) => Some((x.wrapping_add(insn.k), width(size))),
+        Some(Op::LdxMsh) => Some((insn.k, 1)),
+        _ => None,
+    }
+}
+
+/// Puts some bytes of a packet, by the offset of the first one and how many there are, in at most 50 bytes.
+fn prepend_bytes(line: &mut Line, at: u32, count: u32)
+    requires some { 0 < count }
+    requires room { length line.old + 50 ≤ LINE_SIZE }
+    ensures text { line.new ≡ spec.bytes_text at count ++ line.old }
+    ensures grown { length line.new ≤ length line.old + 50 }
+{
+    if count == 1 {
+        line.prepend_u32(at);
+        line.prepend(b"byte ");
+    } else {
+        line.prepend_u64(u64::from(at) + u64::from(count) - 1);
+        line.prepend(b" to ");
+        line.prepend_u32(at);
+        line.prepend(b"bytes ");
+    }
+}
+
+/// Puts which bytes a load wanted, and how many were captured of how many, in at most 97 bytes.
+fn prepend_wanted(line: &mut Line, item: &Captured<'_>, loaded: Option<(u32, u32)>)
+    requires some { IfSome loaded (λ b. 0 < b.1) }
+    requires room { length line.old + 97 ≤ LINE_SIZE }
+    ensures text { line.new ≡ spec.wanted_text (record_of item.now) loaded ++ line.old }
+    ensures grown { length line.new ≤ length line.old + 97 }
+{
+    if let Some((at, count)) = loaded {
+        line.prepend_u32(item.wire);
+        line.prepend(b" of ");
+        line.prepend_u64(item.bytes.len() as u64);
+        line.prepend(b", captured ");
+        prepend_bytes(line, at, count);
+        line.prepend(b": ");
+    }
+}
+
+/// Puts why a packet ended where no conditional jump decided, in at most 199 bytes.
+fn prepend_alone<A: Allocator>(
+    line: &mut Line,
+    p: &Program<A>,
+    item: &Captured<'_>,
+    ended: Ended,
+    x: u32,
+)
+    requires inside { ended.pc < length p.now }
+    requires room { length line.old + 199 ≤ LINE_SIZE }
+    ensures text { line.new ≡ spec.end_place p.now (record_of item.now) ended x None ++ line.old }
+    ensures grown { length line.new ≤ length line.old + 199 }
+{
+    if let End::Outside = ended.reason {
+        prepend_wanted(line, item, loaded_bytes(p, ended.pc, x));
+    }
+    prepend_reason_after(line, ended.reason);
+    prepend_line(line, p, ended.pc);
 }
 
 /// Writes how a packet ended, and the conditional jump that decided, if one did.
 fn write_end<W: Write, A: Allocator>(
     w: &mut W,
     p: &Program<A>,
+    item: &Captured<'_>,
     traced: &Traced,
 ) -> Result<(), WriteFault>
     requires ended { traced.now.ended.pc < length p.now }
     requires test { IfSome traced.now.test (λ t. t.0.pc < length p.now) }
     ensures { Wrote (W.contents w.old) (W.contents w.new) result
-        (spec.end_line p.now traced.now.ended traced.now.test) }
+        (spec.end_line p.now (record_of item.now) traced.now.ended traced.now.x traced.now.test) }
 {
     let ended = traced.ended;
     let mut line = Line::new();
     line.prepend(b"\n");
-    prepend_reason_after(&mut line, ended.reason);
-    prepend_line(&mut line, p, ended.pc);
-    if let Some((choice, s)) = deciding(ended.reason, traced.test) {
-        line.prepend(b", then ");
-        prepend_registers(&mut line, s.a(), s.x());
-        line.prepend(b" with ");
-        prepend_test(&mut line, p, choice);
+    match deciding(ended.reason, traced.test) {
+        Some((choice, s)) => {
+            prepend_line(&mut line, p, ended.pc);
+            line.prepend(b", then ");
+            prepend_registers(&mut line, s.a(), s.x());
+            line.prepend(b" with ");
+            prepend_test(&mut line, p, choice);
+        }
+        None => prepend_alone(&mut line, p, item, ended, traced.x),
     }
     line.prepend(b" at ");
     prepend_verdict(&mut line, ended.verdict());
     line.write(w)
 }
 
-/// Writes the trace of a packet.
+/// Writes the trace of a packet, by the length of the program's longest instruction.
 // Kept out of line, as its registers would else be saved for each packet that is counted.
 #[inline(never)]
 pub(crate) fn write_trace<W: Write, A: Allocator>(
     w: &mut W,
     p: &Program<A>,
+    long: usize,
     values: &Values,
     item: &Captured<'_>,
 ) -> Result<(), WriteFault>
+    requires { IsLongest long p.now }
     ensures { Wrote (W.contents w.old) (W.contents w.new) result
         (spec.trace_text (machine_of p.now values.now) (record_of item.now)) }
 {
     write_with_number(w, b"packet ", item.number, b"\n")?;
-    let traced = write_steps(w, p, values, item)?;
+    let traced = write_steps(w, p, long, values, item)?;
     let _sound = p.len();
-    write_end(w, p, &traced)
+    write_end(w, p, item, &traced)
 }

@@ -147,7 +147,9 @@ static WITHOUT_ROOM: [(Report, &[u8]); 5] = [
     (Report::Summary, b""),
     (
         Report::Traces,
-        b"packet 1\nl0:\tldh [12]\tA 0 (0x0) X 0 (0x0)\nfail at l0:\tldh [12], outside the packet\n",
+        b"packet 1\n\
+l0:\tldh [12]          \tA 0 (0x0) X 0 (0x0)\n\
+fail at l0:\tldh [12], outside the packet: bytes 12 to 13, captured 5 of 5\n",
     ),
     (Report::Packets, b"1\tfail\tl0\toutside the packet\t-\t-\n"),
     (Report::Coverage, b""),

@@ -33,7 +33,7 @@ fn put_numbered(rt: &impl Test, text: &mut Vec<u8>, before: &[u8], last: u64, af
 
 const TRACE: &[u8] = b"\n\
 l0:\tjmp l4095\tA 0 (0x0) X 0 (0x0)\tto l4095\n\
-l4095:\tret #0x1\tA 0 (0x0) X 0 (0x0)\n\
+l4095:\tret #0x1 \tA 0 (0x0) X 0 (0x0)\n\
 pass at l4095:\tret #0x1\n";
 
 /// The whole text of a report.
@@ -51,7 +51,7 @@ fn text_of(rt: &impl Test, report: Report) -> Vec<u8> {
         Report::Packets => put_numbered(rt, &mut text, b"", 5000, b"\tpass\tl4095\t1\t-\t-\n"),
         Report::Coverage => {
             put(rt, &mut text, b"5000\tl0:\tjmp l4095\n");
-            put_numbered(rt, &mut text, b"0\tl", 4094, b":\ttax\n");
+            put_numbered(rt, &mut text, b"   0\tl", 4094, b":\ttax\n");
             put(rt, &mut text, b"5000\tl4095:\tret #0x1\n");
         }
         Report::Graph => {

@@ -32,4 +32,4 @@ returns g c = λ records took.
     (groups_counted c.args.question.now c.args.counted.now records c.requires.counts.0 took)
     (record { pc = c.count_packet-ended.ensures.inside; by = tt })))
     (c.count_packet-ended.ensures.tallies records
-    (runs_counted c.args.question.now c.args.counted.now records c.requires.counts.1 took))
+    (runs_counted c.args.question.now c.args.counted.now records c.requires.counts.1 took)) took.longest

@@ -19,6 +19,6 @@ add-requires g c =
 
 pub returns : goal.returns
 returns g c = λ records took.
-    took-groups c.args.question.now c.args.counted.now _ records (record_of c.args.item.now) c.requires.summary took refl
+    took-groups c.args.question.now c.args.counted.now _ records (record_of c.args.item.now) c.requires.summary took refl refl
     (rw c.end_of.ensures.decided at (c.add.ensures _ _
     (summary_counted c.args.question.now c.args.counted.now records c.requires.summary took) c.end_of.ensures.inside))

@@ -7,6 +7,7 @@ use Rattle.cbpf_why.proofs.job.why.Goals as goal
 pub take_packets-requires-clause-took : goal.take_packets-requires-clause-took
 take_packets-requires-clause-took g c =
     took-nothing c.args.question.now _ c.in-Ok.ensures.groups (c.in-Ok.ensures.tally (machine_in c.args.question.now) refl)
+    c.in-Ok.ensures.longest
 
 pub returns-in_default-clause-reported : goal.returns-in_default-clause-reported
 returns-in_default-clause-reported g c =

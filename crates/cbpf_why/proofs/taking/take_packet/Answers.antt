@@ -9,3 +9,6 @@ returns-in-Coverage-clause-wrote g c = rw c.in-Coverage.is (appended-nil _)
 
 pub returns-in-Graph-clause-wrote : goal.returns-in-Graph-clause-wrote
 returns-in-Graph-clause-wrote g c = rw c.in-Graph.is (appended-nil _)
+
+pub write_trace-requires : goal.write_trace-requires
+write_trace-requires g c = c.requires.1.longest

@@ -1,6 +1,7 @@
 use Rattle.std.proofs.Common.{◌∙◌, sym, ap, arith, refl}
 use Rattle.cbpf_code.proofs.WrittenLemmas.{appended-nil, err-exit}
 use Rattle.cbpf_machine.specs.Machine.{machine_of}
+use Rattle.cbpf_machine.specs.Registers.{Registers}
 use Rattle.cbpf_machine.proofs.FollowLemmas.{start_goes}
 use Rattle.cbpf_machine.proofs.TraceLemmas.{goes_next, turn_on}
 use Rattle.pcap_classic.specs.Lent.{record_of}
@@ -27,7 +28,7 @@ turns-preserved g c =
       here = rw c.turn-made.ensures.spent (goes_next before.here c.in-Some.next is);
       rises = omega (arith, c.turn-made.ensures.spent, before.rises, higher.0);
       written = rw c.turn-made.ensures.spent (steps-next before.here
-          (step_text (machine_of c.args.p.now c.args.values.now) (record_of c.args.item.now)) _ _ _ before.written
+          (step_text c.args.long (machine_of c.args.p.now c.args.values.now) (record_of c.args.item.now)) _ _ _ before.written
           (rw (c.next_state-next.ensures, made, c.packet_of-packet.ensures) at c.in_ok-write_step.ensures));
       test = rw c.turn-made.ensures.spent (test_next before.here _ _ before.test c.test_after-test.ensures);
     }
@@ -36,14 +37,14 @@ pub returns-in_err-write_step-clause-wrote : goal.returns-in_err-write_step-clau
 returns-in_err-write_step-clause-wrote g c =
     let before = c.turns.invariant in
     err-exit _ _ _ _ c.from_residual.ensures.0 (rw c.packet_of-packet.ensures at (steps-stop before.here
-    (step_text (machine_of c.args.p.now c.args.values.now) (record_of c.args.item.now)) _ _ _ before.written
+    (step_text c.args.long (machine_of c.args.p.now c.args.values.now) (record_of c.args.item.now)) _ _ _ before.written
     (rw (c.next_state-next.ensures, c.turn-made.ensures.value, c.packet_of-packet.ensures) at c.in_err-write_step.ensures)))
 
 pub returns-in-None-clause-wrote : goal.returns-in-None-clause-wrote
 returns-in-None-clause-wrote g c =
     let before = c.turns.invariant in
     rw c.packet_of-packet.ensures at (steps-done before.here
-    (step_text (machine_of c.args.p.now c.args.values.now) (record_of c.args.item.now)) _ _ _
+    (step_text c.args.long (machine_of c.args.p.now c.args.values.now) (record_of c.args.item.now)) _ _ _
     (rw (c.next_state-next.ensures, c.turn-made.ensures.value) at c.in-None.is) before.written
     (rw (c.next_state-next.ensures, c.turn-made.ensures.value, c.packet_of-packet.ensures) at c.in_ok-write_step.ensures))
 
@@ -60,3 +61,8 @@ returns-in-None-clause-test g c =
     rw c.packet_of-packet.ensures at (test_last before.here _
     (rw (c.next_state-next.ensures, c.turn-made.ensures.value) at c.in-None.is)
     (test_next before.here _ _ before.test c.test_after-test.ensures))
+
+pub returns-in-None-clause-x : goal.returns-in-None-clause-x
+returns-in-None-clause-x g c =
+    let last = last_is c.turns.invariant.here (rw (c.next_state-next.ensures, c.turn-made.ensures.value) at c.in-None.is) in
+    ap (λ (s : Registers). s.x) (rw c.packet_of-packet.ensures at last)

@@ -13,7 +13,7 @@ invariant-turns g l = record {
   here : IsOnTrace (on_packet l.p l.values l.packet) l.meter l.s;
   rises : l.meter ≤ l.s.pc;
   written : Appended (g.W.Write.contents l.fn.w) (g.W.Write.contents l.w)
-      (flat_map (step_text (machine_of l.p l.values) (record_of l.item)) (take l.meter (trace_in (on_packet l.p l.values l.packet))));
+      (flat_map (step_text l.long (machine_of l.p l.values) (record_of l.item)) (take l.meter (trace_in (on_packet l.p l.values l.packet))));
   test : l.test ≡ option_map (test_of l.p) (last_test l.p (take l.meter (trace_in (on_packet l.p l.values l.packet))));
 }
 

@@ -14,7 +14,7 @@ pub returns-in_err-traced : goal.returns-in_err-traced
 unfolding trace_text
 returns-in_err-traced g c =
     err-exit _ _ _ _ c.from_residual-in_err-traced.ensures.0
-    (part-then _ _ _ _ _ c.in_ok-write_with_number.ensures (part-more _ _ _ _ c.in_err-traced.ensures.wrote))
+    (part-then _ _ _ _ _ c.in_ok-write_with_number.ensures (part-more _ _ _ _ (rw c.requires.0 at c.in_err-traced.ensures.wrote)))
 
 pub write_end-requires-clause-ended : goal.write_end-requires-clause-ended
 write_end-requires-clause-ended g c =
@@ -37,5 +37,6 @@ write_end-requires-clause-test g c =
 pub returns : goal.returns
 unfolding trace_text
 returns g c =
-    wrote-then _ _ _ _ _ _ c.in_ok-write_with_number.ensures (wrote-then _ _ _ _ _ _ c.in_ok-traced.ensures.wrote
-    (rw (c.in_ok-traced.ensures.ended, c.in_ok-traced.ensures.test) at c.write_end.ensures))
+    wrote-then _ _ _ _ _ _ c.in_ok-write_with_number.ensures
+    (wrote-then _ _ _ _ _ _ (rw c.requires.0 at c.in_ok-traced.ensures.wrote)
+    (rw (c.in_ok-traced.ensures.ended, c.in_ok-traced.ensures.x, c.in_ok-traced.ensures.test) at c.write_end.ensures))
