@@ -9,7 +9,9 @@ pub mod InRangeLemmas
 pub mod RangeLemmas
 pub mod ReportLemmas
 pub mod BlockLemmas
+pub mod InstructionLemmas
 pub mod StraightLemmas
 pub mod GroupLawLemmas
+pub mod BlockTurnLemmas
 pub mod EdgeLemmas
 pub mod LawLemmas
