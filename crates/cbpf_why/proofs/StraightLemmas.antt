@@ -21,7 +21,7 @@ use Rattle.cbpf_why.specs.Ends.{decided, deciding, end_by, ended}
 use Rattle.cbpf_why.specs.Groups.{row, row_by}
 use Rattle.cbpf_why.specs.Laws.{SameEnd, without_value}
 use Rattle.cbpf_why.proofs.StepLemmas.{last_is}
-use Rattle.cbpf_why.proofs.InstructionLemmas.{after, test_by_op, find, there_too, turn_does, turn_ends, turn_returns, turn_branches}
+use Rattle.cbpf_why.proofs.InstructionLemmas.{after, compared, find, test_by_op, there_too, turn_does, turn_ends, turn_returns, turn_branches}
 
 -- ---- the last conditional jump of some entries
 
