@@ -65,4 +65,4 @@ returns-in-None-clause-test g c =
 pub returns-in-None-clause-x : goal.returns-in-None-clause-x
 returns-in-None-clause-x g c =
     let last = last_is c.turns.invariant.here (rw (c.next_state-next.ensures, c.turn-made.ensures.value) at c.in-None.is) in
-    ap (λ (s : Registers). s.x) (rw c.packet_of-packet.ensures at last)
+    c.x.ensures ∙ ap (λ (s : Registers). s.x) (rw c.packet_of-packet.ensures at last)
