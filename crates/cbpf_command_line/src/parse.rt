@@ -17,14 +17,15 @@ use std::alloc::{AllocError, Global};
 const VERSION: &str = "3.0.0-dev";
 
 const ABOUT: &str =
-    "Shows why packets pass or fail a classic BPF filter; assembles and debugs filters";
+    "Shows why packets pass or fail a classic BPF filter; assembles and debugs filters
 
-const EXAMPLES: &str = "Without a command, cbpf runs the debugger, dbg, on standard input.
+Without a command, cbpf runs dbg, which reads commands from standard input.
+cbpf-shell is the debugger with a prompt.";
 
-Examples:
-  Say how the packets of a capture end in a filter:
+const EXAMPLES: &str = "Examples:
+  Say how the packets of a capture end in a filter of assembler source:
     $ cbpf why filter.asm trace.pcap
-  The same for a filter of tcpdump, compiled for the capture's link type:
+  The same for the output of tcpdump -ddd, for the capture's link type:
     $ tcpdump -r trace.pcap -ddd arp > filter.words
     $ cbpf why filter.words trace.pcap
   Assemble a filter:
@@ -45,12 +46,12 @@ the place where cbpf is installed. The manual page lists the errors.";
 const ASM_ABOUT: &str = "Assembles a filter's source, and writes its instructions";
 
 const ASM_EXAMPLES: &str = "Examples:
-  Write the words that `load bpf` of cbpf dbg reads:
+  Write the line that cbpf why and `load bpf` of cbpf dbg read:
     $ cbpf asm filter.asm
   Write the members of an array of struct sock_filter in C:
     $ cbpf asm -c filter.asm > filter.h";
 
-const DBG_ABOUT: &str = "Runs a debugger's commands, and writes their replies";
+const DBG_ABOUT: &str = "Runs a debugger's commands from standard input; cbpf-shell has a prompt";
 
 macro_rules! help {
     (; $($name:literal => $read:ident($($command:expr)?), $help:literal;)*) => {
@@ -80,7 +81,7 @@ Examples:
 
 const DBG_EXAMPLES: &str = each_command!(help);
 
-const SOURCE: &str = "The source [default: standard input]";
+const SOURCE: &str = "Assembler source [default: standard input]";
 
 const COMMANDS: &str = "The commands [default: standard input]";
 

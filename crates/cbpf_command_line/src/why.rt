@@ -19,17 +19,19 @@ use std::alloc::{AllocError, Global};
 const WHY_ABOUT: &str = "Says which packets of a capture pass a filter, and why the others fail";
 
 const WHY_EXAMPLES: &str =
-    "FILTER is a source that cbpf asm takes, or the words that it or tcpdump -ddd
-prints. CAPTURE is a pcap file, which is read once, so a pipe will do. PACKET is
-a number, counted from 1 as tcpdump -# and Wireshark do, or a range as 5-8.
+    "FILTER is assembler source, or the output of tcpdump -ddd or cbpf asm. CAPTURE
+is a pcap file, which is read once, so a pipe will do. A missing CAPTURE is read
+from standard input. PACKET is a number, counted from 1 as tcpdump -# and
+Wireshark do, a range as 5-8, or 5- for all packets from 5 on.
 
 Without options and packets it prints which test decided on how many packets,
 where and why the others ended, and the first of each. With packets it prints
 the trace of each: what it executed, with A and X before each instruction.
 
 EXT is proto, type, ifidx, mark, queue, hatype, rxhash, cpu, vlan_tci,
-vlan_avail or vlan_tpid, and N a decimal number. Without a value a packet that
-asks for an extension is unknown.
+vlan_avail or vlan_tpid, and N a number as 2048 or 0x800. One value stands for
+all packets, also where the kernel would give each its own. Without a value a
+packet that asks for an extension is unknown.
 
 Examples:
   How packets end in a filter:
@@ -41,7 +43,7 @@ Examples:
   A graph of a filter with counts, by Graphviz:
     $ cbpf why -g filter.asm trace.pcap | dot -Tsvg > filter.svg";
 
-const FILTER: &str = "The filter: a source, or words";
+const FILTER: &str = "Assembler source, or the output of tcpdump -ddd";
 
 const CAPTURE: &str = "The capture [default: standard input]";
 
@@ -90,7 +92,7 @@ fn value_option<'a>(alloc: Global) -> Arg<'a>
         .short('v')
         .value_name("EXT=N")
         .action(ArgAction::Append)
-        .help("Let loads of the extension EXT give N")
+        .help("Let loads of the extension EXT give N, for all packets")
 }
 
 /// The packets, of which there may be none.
