@@ -1,8 +1,8 @@
 -- The words of `why`, one after another.
-use Rattle.std.proofs.Common.{◌≡◌, ℕ, ◌+◌, ◌-◌, ◌<◌, ◌≤◌, Bool, true, false, List, [], ◌∷◌, ◌++◌, map, length}
+use Rattle.std.proofs.Common.{◌≡◌, ℕ, ◌+◌, ◌-◌, ◌<◌, Bool, true, false, List, [], ◌∷◌, ◌++◌, map, length}
 use Rattle.std.proofs.Common.{take, drop, get_or}
-use Rattle.std.proofs.Common.{Option, Some, None, refl, sym, ap, ◌∙◌, arith, length-drop, take_all, Global}
-use Rattle.std.specs.Prelude.{find, is_some, is_none, String}
+use Rattle.std.proofs.Common.{Some, None, refl, sym, ap, ◌∙◌, arith, length-drop, take_all, Global}
+use Rattle.std.specs.Prelude.{find, String}
 use Rattle.std.specs.List.{filter_map}
 use Rattle.std.proofs.lemmas.List.{take-append-drop, map_more, map-append}
 use Rattle.std.proofs.lemmas.List.Folds.{find-append}
@@ -29,14 +29,6 @@ use Rattle.cbpf_tool.specs.Requests.{value_in, with_given, values_by, packet_ran
 -- the whole rest of a word
 pub rest : (s : List ℕ) (n : ℕ) → take (length s - n) (drop n s) ≡ drop n s
 rest s n = take_all _ _ (omega (arith, length-drop {A = ℕ}))
-
-pub none-of-some : {X : Type 0} (o : Option X) → is_some o ≡ false → is_none o ≡ true
-none-of-some None e = refl
-none-of-some (Some x) e = absurd (cc e)
-
-pub some-of-none : {X : Type 0} (o : Option X) → is_some o ≡ true → is_none o ≡ false
-some-of-none None e = absurd (cc e)
-some-of-none (Some x) e = refl
 
 -- the words up to the next one
 taken-more : (words : List (String Global)) (i : ℕ) (d : String Global) → i < length words
@@ -91,7 +83,7 @@ ranges-more words i d range inside e =
 pub whole : (words : List (String Global)) → take (length words) words ≡ words
 whole words = take_all (length words) words (omega arith)
 
-pub ruleset named = (none-yet, first-one, values-more, ranges-more, none-of-some, some-of-none, whole)
+pub ruleset named = (none-yet, first-one, values-more, ranges-more, whole)
 
 -- ---- sorted ranges
 

@@ -1,7 +1,7 @@
 -- What is said of a report on standard error: which packets the capture lacks of those that were asked for, and where it
 -- is cut (this project's own; the words for a cut are those of the command `load pcap`).
-use Rattle.std.specs.Prelude.{◌≡◌, ℕ, ◌==◌, ◌%◌, Bool, true, false, ◌&&◌, if◌then◌else◌, List, [], ◌∷◌, ◌++◌, length, codes}
-use Rattle.std.specs.Prelude.{decimal, Option, Some, None, is_some, string_bytes}
+use Rattle.std.specs.Prelude.{◌≡◌, ℕ, ◌-◌, ◌^◌, ◌%◌, ◌==◌, nat_le, Bool, true, false, ◌&&◌, if◌then◌else◌, List, []}
+use Rattle.std.specs.Prelude.{◌∷◌, ◌++◌, length, codes, decimal, Option, Some, None, is_some, string_bytes}
 use Rattle.std.specs.List.{flat_map, list_any}
 use Rattle.std.specs.Option.{option_map, option_map_or}
 use Rattle.cbpf_code.specs.Text.{concat, with_number}
@@ -37,6 +37,17 @@ pub record AreRemarks (report : Report) (ranges : List PacketRange) (name : Opti
   pub packets : r.packets.items ≡ ranges
   pub ending : r.end ≡ end
 
+-- ---- what a capture lacks
+
+-- this last number stands for the end of the capture
+abbrev pub to_end : ℕ
+to_end = 2 ^ 64 - 1
+
+-- what a capture of so many packets lacks of a range. One to the end of the capture asks for its first packet, and for
+-- those after it that are there
+abbrev pub lacking : ℕ → PacketRange → Option PacketRange
+lacking count range = if range.last == to_end && nat_le range.first count then None else beyond count range
+
 -- ---- the lines
 
 -- a line begins with the program's name, and with that of the capture where it is a file
@@ -50,11 +61,15 @@ link_line name link =
     if link % LINK_TYPES == ETHERNET then []
     else line_start name ++ with_number (codes "link type ") (link % LINK_TYPES) (codes ", not Ethernet\n")
 
+-- the last number of a range, which isn't said where it stands for the end
+abbrev pub last_text : ℕ → List ℕ
+last_text last = if last == to_end then [] else decimal last
+
 -- a number that the capture lacks, or the first and the last one
 abbrev pub lacking_text : PacketRange → List ℕ
 lacking_text range =
     if range.first == range.last then with_number (codes "no packet ") range.first (codes "\n")
-    else concat (codes "no packets " ∷ decimal range.first ∷ codes "-" ∷ decimal range.last ∷ codes "\n" ∷ [])
+    else concat (codes "no packets " ∷ decimal range.first ∷ codes "-" ∷ last_text range.last ∷ codes "\n" ∷ [])
 
 -- the line of packets that the capture lacks, where it lacks some
 abbrev pub lacking_line : Option (List ℕ) → Option PacketRange → List ℕ
@@ -74,7 +89,7 @@ name_in r = option_map (λ n. string_bytes n) r.capture
 -- a line for each range of which the capture lacks something, and then one where it is cut and the report doesn't say so
 abbrev pub end_lines : Remarks → CaptureEnd → List ℕ
 end_lines r end =
-    flat_map (λ range. lacking_line (name_in r) (beyond end.count range)) r.packets.items
+    flat_map (λ range. lacking_line (name_in r) (lacking end.count range)) r.packets.items
     ++ (if report_says_ending r then [] else ending_line (name_in r) end.count end.ending)
 
 -- the line of the link type, and those of the end where it was read
@@ -83,7 +98,7 @@ remarks_text r = link_line (name_in r) r.link ++ option_map_or (end_lines r) r.e
 
 -- a capture of so many packets lacks one of some ranges
 abbrev pub lacks_any : List PacketRange → ℕ → Bool
-lacks_any ranges count = list_any (λ range. is_some (beyond count range)) ranges
+lacks_any ranges count = list_any (λ range. is_some (lacking count range)) ranges
 
 -- the capture lacks a packet that was asked for
 abbrev pub lacks_packets : Remarks → Bool

@@ -1,8 +1,9 @@
 -- What a command line asks for, with `why`: which packets, which values and which report (this project's own).
-use Rattle.std.specs.Prelude.{◌≡◌, ℕ, ◌+◌, ◌-◌, ◌^◌, ◌==◌, nat_le, nat_lt, Bool, true, false, if◌then◌else◌, List, []}
+use Rattle.std.specs.Prelude.{◌≡◌, ℕ, ◌+◌, ◌-◌, ◌^◌, ◌==◌, nat_le, nat_lt, Bool, true, false, if◌then◌else◌, List, [], ◌∷◌}
 use Rattle.std.specs.Prelude.{◌++◌, fold}
 use Rattle.std.specs.Prelude.{length, take, drop, position, find, codes, string_bytes, IsPermutation}
-use Rattle.std.specs.Prelude.{Option, Some, None, is_none, option_map, option_and_then}
+use Rattle.std.specs.Prelude.{Option, Some, None, is_none, option_map, option_and_then, unwrap_or}
+use Rattle.std.specs.Prelude.{Result, Ok, Err, is_err}
 use Rattle.std.specs.List.{filter_map}
 use Rattle.cbpf_code.specs.Extension.{ext_named}
 use Rattle.cbpf_code.specs.declared.extension.Ext.{Ext}
@@ -15,10 +16,12 @@ use Rattle.cbpf_dbg.specs.Values.{Values, no_values, with_value, takes_value}
 use Rattle.cbpf_why.specs.declared.chosen.PacketRange.{PacketRange}
 use Rattle.cbpf_why.specs.declared.report.Report.{Report}
 use Rattle.cbpf_why.specs.declared.report.Report.TheVariants as report
-use Rattle.cbpf_tool.specs.Numbers.{number_up_to}
-use Rattle.cbpf_tool.specs.Commands.{by_both}
+use Rattle.cbpf_tool.specs.Numbers.{number_up_to, numeral_value}
+use Rattle.cbpf_tool.specs.Remarks.{to_end}
 use Rattle.cbpf_tool.specs.declared.request.NamesFault.{NamesFault}
 use Rattle.cbpf_tool.specs.declared.request.NamesFault.TheVariants as names
+use Rattle.cbpf_tool.specs.declared.request.ValueFault.{ValueFault}
+use Rattle.cbpf_tool.specs.declared.request.ValueFault.TheVariants as fault
 use Rattle.cbpf_tool.specs.declared.request.WhyJob.{WhyJob}
 use Rattle.cbpf_tool.specs.declared.request.Request.{Request}
 use Rattle.cbpf_tool.specs.declared.request.Request.TheVariants as request
@@ -41,32 +44,55 @@ number_of_packet word = option_and_then positive (number_up_to (2 ^ 64 - 1) word
 abbrev pub range_between : ℕ → ℕ → Option PacketRange
 range_between first last = if nat_le first last then Some (record { first = first; last = last }) else None
 
+-- the last number of a range; where nothing is given, it is the one that stands for the end of the capture
+abbrev pub last_number : List ℕ → Option ℕ
+last_number [] = Some to_end
+last_number (b ∷ bs) = number_of_packet (b ∷ bs)
+
 -- the range that a word spells, given what stands before and after its `-`, if it has one
 abbrev pub range_by : Option (List ℕ × List ℕ) → List ℕ → Option PacketRange
 range_by None word = option_map (λ n. record { first = n; last = n }) (number_of_packet word)
 range_by (Some ends) word =
-    option_and_then (λ first. option_and_then (range_between first) (number_of_packet ends.1)) (number_of_packet ends.0)
+    option_and_then (λ first. option_and_then (range_between first) (last_number ends.1)) (number_of_packet ends.0)
 
--- a number, or a first and a last one with `-` between
+-- a number, or a first and a last one with `-` between, of which the last may be missing
 abbrev pub packet_range : List ℕ → Option PacketRange
 packet_range word = range_by (split_once 45 word) word
 
 -- ---- values
 
--- an extension and a number of 32 bits, with `=` between
-abbrev pub extension_value : List ℕ → Option (Ext × ℕ)
-extension_value word =
-    option_and_then (λ ends. by_both (λ e n. (e, n)) (ext_named ends.0) (number_up_to (2 ^ 32 - 1) ends.1))
-    (split_once 61 word)
+-- a name and a number, with `=` between; without a `=` there is no number
+abbrev pub name_and_number : List ℕ → List ℕ × List ℕ
+name_and_number word = unwrap_or (split_once 61 word) (word, [])
+
+-- a number of 32 bits, decimal or hexadecimal
+abbrev pub number_by : Option ℕ → Result ℕ ValueFault
+number_by None = Err fault.NumberExpected
+number_by (Some n) = if nat_lt n (2 ^ 32) then Ok n else Err fault.NumberOutOfRange
+
+-- the value of an extension, where it takes one
+abbrev pub taken : Ext → Result ℕ ValueFault → Result (Ext × ℕ) ValueFault
+taken e (Err fault) = Err fault
+taken e (Ok n) = if takes_value e then Ok (e, n) else Err fault.TakesNoValue
+
+-- the value of the extension of this name, where it is one
+abbrev pub named_value : Option Ext → List ℕ → Result (Ext × ℕ) ValueFault
+named_value None number = Err fault.UnknownExtension
+named_value (Some e) number = taken e (number_by (numeral_value number))
 
 -- an extension that takes a value, and its value
-abbrev pub value_in : List ℕ → Option (Ext × ℕ)
-value_in word = option_and_then (λ v. if takes_value v.0 then Some v else None) (extension_value word)
+abbrev pub value_in : List ℕ → Result (Ext × ℕ) ValueFault
+value_in word = named_value (ext_named (name_and_number word).0) (name_and_number word).1
 
 -- values with one that was given
-abbrev pub with_given : Values → Option (Ext × ℕ) → Values
-with_given values None = values
-with_given values (Some v) = with_value values v.0 v.1
+abbrev pub with_given : Values → Result (Ext × ℕ) ValueFault → Values
+with_given values (Err fault) = values
+with_given values (Ok v) = with_value values v.0 v.1
+
+-- values before and after a word was read that gives this one; they stay as they are where it gives none
+abbrev pub Sets : Values → Values → Result (Unit {0}) ValueFault → Result (Ext × ℕ) ValueFault → Type 0
+Sets old new (Ok done) given = (is_err given ≡ false) × (new ≡ with_given old given)
+Sets old new (Err fault) given = (given ≡ Err fault) × (new ≡ old)
 
 -- the values that words give; a later one replaces an earlier one of the same extension
 abbrev pub values_by : List (List ℕ) → Values
@@ -76,7 +102,7 @@ values_by words = fold (λ values word. with_given values (value_in word)) no_va
 
 -- the first word that gives no value
 abbrev pub no_value : List (List ℕ) → Option (List ℕ)
-no_value words = find (λ word. is_none (value_in word)) words
+no_value words = find (λ word. is_err (value_in word)) words
 
 -- the first word that names no packets
 abbrev pub no_packets : List (List ℕ) → Option (List ℕ)
@@ -87,10 +113,17 @@ abbrev pub IsNamesFault : List (List ℕ) → NamesFault → Type 0
 IsNamesFault words (names.Refused word) = no_packets words ≡ Some word.now
 IsNamesFault words names.Memory = Unit {0}
 
--- the refusal of a word that was given for an argument
-abbrev pub refusal_text : List ℕ → List ℕ → List ℕ
-refusal_text word argument =
-    codes "invalid value '" ++ (word ++ (codes "' for '" ++ (argument ++ codes "'")))
+-- why a word gives no value
+abbrev pub value_reason : ValueFault → List ℕ
+value_reason fault.UnknownExtension = codes "unknown extension"
+value_reason fault.TakesNoValue = codes "this extension takes no value"
+value_reason fault.NumberExpected = codes "number expected"
+value_reason fault.NumberOutOfRange = codes "number out of range"
+
+-- the refusal of a word that was given for an argument, with the reason
+abbrev pub refusal_text : List ℕ → List ℕ → List ℕ → List ℕ
+refusal_text word argument reason =
+    codes "invalid value '" ++ (word ++ (codes "' for '" ++ (argument ++ (codes "': " ++ reason))))
 
 -- the fault of a word, where one is refused
 abbrev pub refused_by : Option (List ℕ) → Kinds

@@ -1,6 +1,6 @@
 //! Numbers in a line.
 
-ghost use Rattle.std.specs.Prelude.{◌≡◌, ◌-◌, ◌^◌, pos, option_map};
+ghost use Rattle.std.specs.Prelude.{◌≡◌, ◌-◌, ◌^◌, ◌≤◌, pos, option_map};
 ghost use Rattle.cbpf_tool.specs.Numbers as spec;
 
 use cbpf_code::is_digit;
@@ -47,5 +47,44 @@ pub(crate) fn signed_number(word: &[u8]) -> Option<i64>
         [b'+', digits @ ..] => number_63(digits),
         [b'-', digits @ ..] => Some(-number_63(digits)?),
         digits => number_63(digits),
+    }
+}
+
+/// The least number above 32 bits, which stands for all greater ones too.
+pub(crate) const LIMIT: u64 = 1 << 32;
+
+/// What digits of a base spell, at most `LIMIT`.
+fn digits_value(base: u32, digits: &[u8]) -> Option<u64>
+    requires least { 2 ≤ base }
+    requires most { base ≤ 16 }
+    ensures { spec.IsCapped result (spec.digits_value base 0 digits.now) }
+{
+    let mut value = 0u64;
+    for b in digits {
+        let digit = char::from(*b).to_digit(base)?;
+        value = (value * u64::from(base) + u64::from(digit)).min(LIMIT);
+    }
+    Some(value)
+}
+
+/// The same of at least one digit.
+fn some_digits_value(base: u32, digits: &[u8]) -> Option<u64>
+    requires least { 2 ≤ base }
+    requires most { base ≤ 16 }
+    ensures { spec.IsCapped result (spec.some_digits_value base digits.now) }
+{
+    if digits.is_empty() {
+        return None;
+    }
+    digits_value(base, digits)
+}
+
+/// The number that a word spells, decimal or hexadecimal after `0x`, at most `LIMIT`.
+pub(crate) fn numeral_value(word: &[u8]) -> Option<u64>
+    ensures { spec.IsCapped result (spec.numeral_value word.now) }
+{
+    match word {
+        [b'0', b'x', digits @ ..] => some_digits_value(16, digits),
+        digits => some_digits_value(10, digits),
     }
 }

@@ -1,10 +1,10 @@
 //! What is said of a report on standard error.
 
-ghost use Rattle.std.specs.Prelude.{◌≡◌, string_bytes};
+ghost use Rattle.std.specs.Prelude.{◌≡◌, ◌+◌, ◌≤◌, ◌++◌, length, string_bytes};
 ghost use Rattle.std.specs.List.{flat_map};
 ghost use Rattle.std.specs.Option.{option_map};
 ghost use Rattle.cbpf_code.specs.Writing.{Wrote};
-ghost use Rattle.cbpf_why.specs.Chosen.{beyond};
+ghost use Rattle.cbpf_code.specs.declared.writing.TheConstants.{LINE_SIZE};
 ghost use Rattle.cbpf_tool.specs.Remarks as spec;
 
 use cbpf_code::{Line, WriteFault, write_bytes, write_parts, write_with_number};
@@ -18,6 +18,21 @@ const ETHERNET: u32 = 1;
 
 /// A file has its link type in the lower 16 bits of a number. Others say whether its packets end with a check sequence.
 const LINK_TYPES: u32 = 65_536;
+
+/// The last number of a range that goes to the end of the capture.
+pub(crate) const TO_END: u64 = u64::MAX;
+
+/// What a capture of so many packets lacks of a range. One to the end of the capture asks for its first packet, and for
+/// those after it that are there.
+fn lacking(range: PacketRange, count: u64) -> Option<PacketRange>
+    ensures { result ≡ spec.lacking count range }
+{
+    if range.last == TO_END && range.first <= count {
+        None
+    } else {
+        range.beyond(count)
+    }
+}
 
 /// What is to be said of a report that is whole.
 #[derive(Debug, Drop)]
@@ -57,7 +72,7 @@ fn lacks_any(ranges: &[PacketRange], count: u64) -> bool
     ensures { result ≡ spec.lacks_any ranges.now count }
 {
     for range in ranges {
-        if range.beyond(count).is_some() {
+        if lacking(*range, count).is_some() {
             return true;
         }
     }
@@ -93,16 +108,28 @@ fn write_link_line<W: Write>(
     write_with_number(w, b"link type ", u64::from(link), b", not Ethernet\n")
 }
 
+/// Puts the last number of a range, where it doesn't stand for the end.
+fn prepend_last(line: &mut Line, last: u64)
+    requires { length line.old + 20 ≤ LINE_SIZE }
+    ensures text { line.new ≡ spec.last_text last ++ line.old }
+    ensures grown { length line.new ≤ length line.old + 20 }
+{
+    if last != TO_END {
+        line.prepend_u64(last);
+    }
+}
+
 /// Writes which packets are lacking.
 fn write_lacking<W: Write>(w: &mut W, range: PacketRange) -> Result<(), WriteFault>
     ensures { Wrote (W.contents w.old) (W.contents w.new) result (spec.lacking_text range) }
 {
     let mut line = Line::new();
     line.prepend(b"\n");
-    line.prepend_u64(range.last);
     if range.first == range.last {
+        line.prepend_u64(range.last);
         line.prepend(b"no packet ");
     } else {
+        prepend_last(&mut line, range.last);
         line.prepend(b"-");
         line.prepend_u64(range.first);
         line.prepend(b"no packets ");
@@ -154,11 +181,11 @@ fn write_lacking_lines<W: Write>(
     count: u64,
 ) -> Result<(), WriteFault>
     ensures { Wrote (W.contents w.old) (W.contents w.new) result
-        (flat_map (λ range. spec.lacking_line (option_map (λ n. string_bytes n) capture.now) (beyond count range))
+        (flat_map (λ range. spec.lacking_line (option_map (λ n. string_bytes n) capture.now) (spec.lacking count range))
         ranges.now) }
 {
     for range in ranges {
-        write_lacking_line(w, capture, range.beyond(count))?;
+        write_lacking_line(w, capture, lacking(*range, count))?;
     }
     Ok(())
 }

@@ -1,13 +1,15 @@
 //! What a command line asks for, with `why`.
 
-ghost use Rattle.std.specs.Prelude.{◌≡◌, ◌==◌, ◌<◌, [], length, position, map, filter_map, option_map, is_some};
-ghost use Rattle.std.specs.Prelude.{false, Some, None, IfSome, IfOk, IfErr, OnOk, MatchResult, IsPermutation};
+ghost use Rattle.std.specs.Prelude.{◌≡◌, ◌==◌, ◌<◌, [], length, position, map, filter_map, option_map};
+ghost use Rattle.std.specs.Prelude.{false, Some, None, Err, IfSome, IfOk, IfErr, OnOk, MatchResult, IsPermutation};
 ghost use Rattle.cbpf_command_line.specs.CommandLine.{text_of, IsFaultOf, faults_in};
 ghost use Rattle.cbpf_command_line.specs.RequestLine.{names_why, requested_for, why_meaning, word_faults};
 ghost use Rattle.cbpf_why.specs.Chosen.{AreSorted};
+ghost use Rattle.cbpf_tool.specs.Numbers.{numeral_value};
 ghost use Rattle.cbpf_tool.specs.Requests as spec;
 
-use crate::number::{number_32, number_up_to};
+use crate::number::{LIMIT, number_up_to, numeral_value};
+use crate::remarks::TO_END;
 use crate::report_asked::ReportAsked;
 use cbpf_code::{Ext, ext_named};
 use cbpf_command_line::{
@@ -33,6 +35,9 @@ pub enum Request {
     Job(Job),
     Why(WhyJob),
 }
+
+/// What is to stand for a `PACKET`.
+const PACKETS: &str = "N, N-M or N- expected, counted from 1";
 
 /// Where the first byte of a kind stands.
 pub(crate) fn position_of(word: &[u8], sign: u8) -> Option<usize>
@@ -72,7 +77,18 @@ fn range_between(first: u64, last: u64) -> Option<PacketRange>
     }
 }
 
-/// The packets that a word names: a number, or a first and a last one with `-` between.
+/// The last number of a range, which is that of the capture's end where it is missing.
+fn last_number(word: &[u8]) -> Option<u64>
+    ensures { result ≡ spec.last_number word.now }
+{
+    if word.is_empty() {
+        Some(TO_END)
+    } else {
+        number_of_packet(word)
+    }
+}
+
+/// The packets that a word names: a number, or a first and a last one with `-` between, of which the last may be missing.
 fn packet_range(word: &[u8]) -> Option<PacketRange>
     ensures { result ≡ spec.packet_range word.now }
 {
@@ -84,40 +100,87 @@ fn packet_range(word: &[u8]) -> Option<PacketRange>
                 last: number,
             })
         }
-        Some((first, last)) => range_between(number_of_packet(first)?, number_of_packet(last)?),
+        Some((first, last)) => range_between(number_of_packet(first)?, last_number(last)?),
     }
 }
 
-/// An extension and its value, of a word `EXT=N`.
-fn extension_value(word: &[u8]) -> Option<(Ext, u32)>
-    ensures { result ≡ spec.extension_value word.now }
-{
-    let (name, number) = split_once(word, b'=')?;
-    Some((ext_named(name)?, number_32(number)?))
+/// Why a word gives no value.
+#[derive(Clone, Copy)]
+enum ValueFault {
+    UnknownExtension,
+    /// The extension is one that takes no value.
+    TakesNoValue,
+    NumberExpected,
+    NumberOutOfRange,
 }
 
-/// Sets the value that a word gives; false where it gives none.
-fn set_value(values: &mut Values, word: &[u8]) -> bool
-    ensures is_set { result ≡ is_some (spec.value_in word.now) }
-    ensures value { values.new ≡ spec.with_given values.old (spec.value_in word.now) }
+/// The text of a fault.
+fn value_reason(fault: ValueFault) -> &'static str
+    ensures { result.now ≡ spec.value_reason fault }
 {
-    match extension_value(word) {
-        Some((e, n)) => values.set(e, n),
-        None => false,
+    match fault {
+        ValueFault::UnknownExtension => "unknown extension",
+        ValueFault::TakesNoValue => "this extension takes no value",
+        ValueFault::NumberExpected => "number expected",
+        ValueFault::NumberOutOfRange => "number out of range",
     }
 }
 
-/// The values that words give, or the first word that gives none.
+/// A name and a number of a word `NAME=N`. Without a `=` there is no number.
+fn name_and_number(word: &[u8]) -> (&[u8], &[u8])
+    ensures { (result.0.now, result.1.now) ≡ spec.name_and_number word.now }
+{
+    match split_once(word, b'=') {
+        Some(parts) => parts,
+        None => (word, &[]),
+    }
+}
+
+/// The number of 32 bits that a word spells, decimal or hexadecimal.
+fn value_number(word: &[u8]) -> Result<u32, ValueFault>
+    ensures { result ≡ spec.number_by (numeral_value word.now) }
+{
+    match numeral_value(word) {
+        None => Err(ValueFault::NumberExpected),
+        Some(LIMIT) => Err(ValueFault::NumberOutOfRange),
+        Some(number) => Ok(number as u32),
+    }
+}
+
+/// Sets the value of an extension.
+fn set_number(values: &mut Values, e: Ext, number: &[u8]) -> Result<(), ValueFault>
+    ensures { spec.Sets values.old values.new result (spec.taken e (spec.number_by (numeral_value number.now))) }
+{
+    if values.set(e, value_number(number)?) {
+        Ok(())
+    } else {
+        Err(ValueFault::TakesNoValue)
+    }
+}
+
+/// Sets the value that a word gives, where it gives one.
+fn set_value(values: &mut Values, word: &[u8]) -> Result<(), ValueFault>
+    ensures { spec.Sets values.old values.new result (spec.value_in word.now) }
+{
+    let (name, number) = name_and_number(word);
+    match ext_named(name) {
+        Some(e) => set_number(values, e, number),
+        None => Err(ValueFault::UnknownExtension),
+    }
+}
+
+/// The values that words give, or the first word that gives none, and why.
 #[tactic(auto, using(crate::proofs::RequestLemmas::named))]
-fn values_of(words: &[String]) -> Result<Values, &str>
+fn values_of(words: &[String]) -> Result<Values, (&str, ValueFault)>
     ensures { MatchResult result
         (λ values. (spec.no_value (map text_of words.now) ≡ None) × (values ≡ spec.values_by (map text_of words.now)))
-        (λ word. spec.no_value (map text_of words.now) ≡ Some word.now) }
+        (λ refused. (spec.no_value (map text_of words.now) ≡ Some refused.0.now)
+        × (spec.value_in refused.0.now ≡ Err refused.1)) }
 {
     let mut values = Values::new();
     for word in words {
-        if !set_value(&mut values, word.as_str().as_bytes()) {
-            return Err(word.as_str());
+        if let Err(fault) = set_value(&mut values, word.as_str().as_bytes()) {
+            return Err((word.as_str(), fault));
         }
     }
     Ok(values)
@@ -167,17 +230,22 @@ fn ranges_of(alloc: Global, words: &[String]) -> Result<Vec<PacketRange>, NamesF
 }
 
 /// What is wrong with a word that was given for an argument.
-fn refusal_text(alloc: Global, word: &str, argument: &str) -> Result<String, AllocError>
-    ensures { IfOk result (λ text. text_of text ≡ spec.refusal_text word.now argument.now) }
+fn refusal_text(
+    alloc: Global,
+    word: &str,
+    argument: &str,
+    reason: &str,
+) -> Result<String, AllocError>
+    ensures { IfOk result (λ text. text_of text ≡ spec.refusal_text word.now argument.now reason.now) }
 {
-    format!(in alloc; "invalid value '{word}' for '{argument}'")
+    format!(in alloc; "invalid value '{word}' for '{argument}': {reason}")
 }
 
 /// The refusal of a word that was given for an argument.
-fn refused(alloc: Global, word: &str, argument: &str) -> LineFault
+fn refused(alloc: Global, word: &str, argument: &str, reason: &str) -> LineFault
     ensures { IsFaultOf word_faults result }
 {
-    match refusal_text(alloc, word, argument) {
+    match refusal_text(alloc, word, argument, reason) {
         Ok(text) => refused_word(alloc, text.as_str()),
         Err(_) => LineFault::Memory,
     }
@@ -204,7 +272,7 @@ fn values_asked(alloc: Global, words: &[String]) -> Result<Values, LineFault>
 {
     match values_of(words) {
         Ok(values) => Ok(values),
-        Err(word) => Err(refused(alloc, word, "-v <EXT=N>")),
+        Err((word, fault)) => Err(refused(alloc, word, "-v <EXT=N>", value_reason(fault))),
     }
 }
 
@@ -217,7 +285,7 @@ fn ranges_asked(alloc: Global, words: &[String]) -> Result<Vec<PacketRange>, Lin
 {
     match ranges_of(alloc, words) {
         Ok(ranges) => Ok(ranges),
-        Err(NamesFault::Refused(word)) => Err(refused(alloc, word, "[PACKET]...")),
+        Err(NamesFault::Refused(word)) => Err(refused(alloc, word, "[PACKET]...", PACKETS)),
         Err(NamesFault::Memory) => Err(LineFault::Memory),
     }
 }
