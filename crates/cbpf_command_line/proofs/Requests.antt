@@ -1,5 +1,5 @@
 -- What a parse by the program's command with `why` gives.
-use Rattle.std.proofs.Common.{◌≡◌, ◌≤◌, ◌+◌, List, [], ◌∷◌, None, length, true, ap, arith, refl, sym, ◌∙◌, subst, inl}
+use Rattle.std.proofs.Common.{◌≡◌, ◌≤◌, List, [], ◌∷◌, None, length, true, ap, arith, refl, sym, ◌∙◌, subst, inl}
 use Rattle.std.proofs.Common.{inr}
 use Rattle.clap.specs.Words.{App, Text, HasMatchesOf, is_simple, is_simple_and_free, fault_of, subcommand_of}
 use Rattle.clap.specs.Words.{subcommand_rows_of, Kinds}
@@ -9,7 +9,7 @@ use Rattle.clap.specs.declared.parser.matches.ArgMatches.{ArgMatches}
 use Rattle.cbpf_command_line.specs.CommandLine.{dbg, IsFaultOf}
 use Rattle.cbpf_command_line.specs.declared.job.LineFault.{LineFault}
 use Rattle.cbpf_command_line.specs.declared.job.LineFault.TheVariants.{Help, Refused, Memory}
-use Rattle.cbpf_command_line.specs.RequestLine.{cbpf_app, Requested, job, requested_by, requested_for, conflict_by}
+use Rattle.cbpf_command_line.specs.RequestLine.{cbpf_app, job, requested_by, requested_for, conflict_by}
 use Rattle.cbpf_command_line.specs.RequestLine.{request_faults}
 
 is_simple-wide : is_simple cbpf_app ≡ true

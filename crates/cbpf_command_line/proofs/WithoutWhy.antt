@@ -3,10 +3,10 @@ use Rattle.std.proofs.Common.{◌≡◌, ℕ, Bool, true, false, ◌||◌, List,
 use Rattle.std.proofs.Common.{fold, bytes_eq, codes}
 use Rattle.std.proofs.Common.{ap, ap₂, refl, sym, ◌∙◌, subst, ◌⊎◌, inl, inr}
 use Rattle.clap.specs.Walk.{Walk, Waiting, idle, option, positional, walk, walked, walk_from, answers_to, after_step}
-use Rattle.clap.specs.Walk.{Names, Text, Held, Row, subcommand_met, subcommand_or_other, nothing_held}
-use Rattle.clap.specs.Simple.{App, Shape, built, names_of, argument_words, entered, label_of, rows_at, subcommand_of}
+use Rattle.clap.specs.Walk.{Names, Text, Held, subcommand_met, subcommand_or_other, nothing_held}
+use Rattle.clap.specs.Simple.{Shape, built, names_of, argument_words, entered, label_of, rows_at, subcommand_of}
 use Rattle.clap.specs.Faults.{walk_fault, turn_fault, other_fault, step_fault, level_fault, entered_fault}
-use Rattle.clap.specs.Faults.{built_fault, fault_of}
+use Rattle.clap.specs.Faults.{fault_of}
 use Rattle.clap.specs.Faults.{settle_fault, defaults_fault, check_fault}
 use Rattle.clap.specs.Walk.{settled, finished}
 use Rattle.std.specs.Option.{option_map_or}
