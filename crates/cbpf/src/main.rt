@@ -108,7 +108,7 @@ fn words<R: Env + AllocGlobal>(rt: &R) -> io::Result<Vec<String>> {
     Ok(words)
 }
 
-/// Writes what is to be said to the standard error, by one write where there is memory.
+/// Writes what is to be said to the standard error, through a buffer where there is memory.
 fn say<E: Print, A: Allocator>(errors: &E, alloc: A, exit: &Exit) {
     match BufWriter::new(alloc, io::writer(errors)) {
         Ok(mut w) => {

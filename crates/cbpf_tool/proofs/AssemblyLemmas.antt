@@ -13,6 +13,8 @@ use Rattle.cbpf_text.specs.declared.fault.AsmFault.TheVariants as asm
 use Rattle.cbpf_tool.specs.declared.fault.ToolFault.{ToolFault}
 use Rattle.cbpf_tool.specs.declared.fault.ToolFault.TheVariants.{Source, Read, Write, Memory}
 use Rattle.cbpf_tool.specs.Assembling.{Assembled, IsReadingFault, form_text}
+use Rattle.cbpf_tool.specs.Jobs.{IsAssembled}
+use Rattle.cbpf_tool.specs.declared.failure.Failure.TheVariants.{Tool}
 use Rattle.cbpf_tool.proofs.ScriptLemmas.{part-whole}
 
 module _ (source : List ℕ) (form : Form) (old : Option (List ℕ)) where
@@ -48,6 +50,14 @@ module _ (source : List ℕ) (form : Form) (old : Option (List ℕ)) where
         → Assembled source form old new (Ok x)
     unfolding Assembled
     asm-done mid new x w k = (list, a, appended-kept old mid new (form_text form list) w k)
+
+-- a source that could not be read or held
+pub unread-shown : (source : List ℕ) (form : Form) (old : Option (List ℕ)) (e : ToolFault) → IsReadingFault e
+    → IsAssembled source form old old (Err (Tool e))
+unread-shown source form old Read h = (Err Read, refl, asm-unread source form old Read h)
+unread-shown source form old Memory h = (Err Memory, refl, asm-unread source form old Memory h)
+unread-shown source form old Write h = absurd h
+unread-shown source form old (Source f) h = absurd h
 
 pub asm-untouched : (source : List ℕ) (form : Form) (old new : Option (List ℕ)) (r : Result (Unit {0}) ToolFault)
     → Assembled source form old new r → IfErr r (λ e. e ≢ Write → Appended old new [])

@@ -1,6 +1,10 @@
 -- What the tools leave in a writer that was empty, and what a job did on its machine.
 use Rattle.std.proofs.Common.{◌≡◌, ℕ, List, [], ◌∷◌, Option, Some, None, Result, Ok, Err, inr, refl, IsTrue}
+use Rattle.std.specs.Prelude.{IfErr}
+use Rattle.std.specs.Io.KnownBytes.{Keeps}
 use Rattle.cbpf_code.specs.Writing.{Appended, AppendedPart}
+use Rattle.cbpf_code.proofs.WrittenLemmas.{appended-kept}
+use Rattle.cbpf_tool.proofs.ScriptLemmas.{part-whole}
 use Rattle.cbpf_code.specs.declared.form.Form.{Form}
 use Rattle.cbpf_tool.specs.Assembling.{Assembled}
 use Rattle.cbpf_tool.specs.Debugged.{Debugged}
@@ -11,6 +15,8 @@ use Rattle.std.specs.FinMap as map
 use Rattle.cbpf_tool.specs.Hosted.{Hosted, Event, and_then, without_output, opened, created, wrote, printed}
 use Rattle.cbpf_tool.specs.Jobs.{tooled, RanOnce, RunsTool, AssembledTo, AssemblesTo, DebuggedTo, RepliesTo}
 use Rattle.cbpf_tool.specs.declared.failure.Failure.{Failure}
+use Rattle.cbpf_tool.specs.declared.exit.Exit.{Exit}
+use Rattle.cbpf_tool.specs.Exits.{Explained, Helped, after_help}
 
 pub appended-some : (old : List ℕ) (new : Option (List ℕ)) (t : List ℕ) → Appended (Some old) new t
     → (text : List ℕ) × (new ≡ Some text)
@@ -52,6 +58,33 @@ assembled-printed h mid new source form old w t m o a p =
     let b : Assembled source form (Some []) w t = rw o at a in
     let some = assembled-some source form w t b in
     inr (some.0, rw m at (p some.0 some.1), rw some.1 at b)
+
+-- help that was written, and then flushed
+pub help-flushed : (old mid new : Option (List ℕ)) (help : List ℕ) (r : Result (Unit {0}) ToolFault) → Appended old mid help
+    → Keeps mid new → IfErr r (λ e. e ≡ Write) → Helped old new help r
+help-flushed old mid new help (Ok x) w k f = appended-kept old mid new help w k
+help-flushed old mid new help (Err e) w k f = (part-whole old new help (appended-kept old mid new help w k), f)
+
+-- help of which a beginning was written
+pub help-unwritten : (old new : Option (List ℕ)) (help : List ℕ) → AppendedPart old new help → Helped old new help (Err Write)
+help-unwritten old new help w = (w, refl)
+
+pub ruleset helps = (help-flushed, help-unwritten)
+
+-- the standard output was left with help
+pub help-printed : (h mid new : Hosted) (help : List ℕ) (old w : Option (List ℕ)) (done : Result (Unit {0}) ToolFault)
+    (exit : Exit) → mid ≡ without_output h → old ≡ Some [] → Helped old w help done
+    → ((text : List ℕ) → w ≡ Some text → new ≡ and_then mid (printed text ∷ [])) → exit ≡ after_help done
+    → Explained h new help exit
+help-printed h mid new help old w done exit m o d p e =
+    let b : Helped (Some []) w help done = rw o at d in
+    let some = helped-some help w done b in
+    inr (some.0, rw m at (p some.0 some.1), done, rw some.1 at b, e)
+  where
+    helped-some : (t : List ℕ) (v : Option (List ℕ)) (r : Result (Unit {0}) ToolFault) → Helped (Some []) v t r
+        → (text : List ℕ) × (v ≡ Some text)
+    helped-some t v (Ok x) k = appended-some [] v t k
+    helped-some t v (Err f) k = part-some [] v t k.0
 
 pub debugged-from : (h : Hosted) (script : List ℕ) (left old new : Option (List ℕ)) (f g : FileSource)
     (t : Result (Unit {0}) ToolFault) → old ≡ Some [] → f ≡ known_source h.files 0

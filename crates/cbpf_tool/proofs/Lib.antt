@@ -7,6 +7,7 @@ pub mod ReplyLemmas
 pub mod ScriptLemmas
 pub mod AssemblyLemmas
 pub mod SourceLemmas
+pub mod SourceLineLemmas
 pub mod SessionReplyLemmas
 pub mod OutputLaws
 pub mod HostLemmas

@@ -1,17 +1,19 @@
 -- What the program does with the words of its command line, what it says on standard error, and the status with which it
 -- ends (this project's own).
-use Rattle.std.specs.Prelude.{◌≡◌, ◌⊎◌, ◌++◌, ℕ, List, [], ◌∷◌, Some, None, Result, Ok, Err, codes}
+use Rattle.std.specs.Prelude.{◌≡◌, ◌⊎◌, ◌++◌, ℕ, List, [], ◌∷◌, Option, Some, None, Result, Ok, Err, codes}
 use Rattle.std.specs.Prelude.{string_bytes}
-use Rattle.cbpf_code.specs.Writing.{AppendedPart}
+use Rattle.cbpf_code.specs.Text.{concat}
+use Rattle.cbpf_code.specs.Writing.{Appended, AppendedPart}
 use Rattle.cbpf_command_line.specs.CommandLine.{IsFaultOf}
 use Rattle.cbpf_command_line.specs.RequestLine.{requested_for}
 use Rattle.cbpf_command_line.specs.declared.job.LineFault.{LineFault}
 use Rattle.cbpf_command_line.specs.declared.job.LineFault.TheVariants as line
+use Rattle.cbpf_why.specs.Messages.{filter_message}
 use Rattle.pcap_classic.specs.Messages.{header_message}
 use Rattle.pcap_classic.specs.declared.header.HeaderFault.{HeaderFault}
 use Rattle.cbpf_tool.specs.Hints.{no_filter_hint, capture_hint}
 use Rattle.cbpf_tool.specs.Hosted.{Hosted, and_then, without_output, printed}
-use Rattle.cbpf_tool.specs.Messages.{failure_message, why_failure_message}
+use Rattle.cbpf_tool.specs.Messages.{failure_message, tool_message}
 use Rattle.cbpf_tool.specs.Remarks.{remarks_text}
 use Rattle.cbpf_tool.specs.Requests.{IsRequest, line_faults}
 use Rattle.cbpf_tool.specs.RunJob.{RequestDone, request_status}
@@ -21,7 +23,7 @@ use Rattle.cbpf_tool.specs.declared.exit.Exit.TheVariants.{Request, Refused, Not
 use Rattle.cbpf_tool.specs.declared.failure.Failure.TheVariants as job
 use Rattle.cbpf_tool.specs.declared.failure.Failure.{Failure}
 use Rattle.cbpf_tool.specs.declared.fault.ToolFault.{ToolFault}
-use Rattle.cbpf_tool.specs.declared.fault.ToolFault.TheVariants.{Write, Memory}
+use Rattle.cbpf_tool.specs.declared.fault.ToolFault.TheVariants.{Read, Write, Memory}
 use Rattle.cbpf_tool.specs.declared.request.Request.{Request as ARequest}
 use Rattle.cbpf_tool.specs.declared.why_failure.WhyFailure.{WhyFailure}
 use Rattle.cbpf_tool.specs.declared.why_failure.WhyFailure.TheVariants as failure
@@ -31,15 +33,6 @@ abbrev pub job_hint : Failure → List ℕ
 job_hint (job.Tool fault) = []
 job_hint (job.Source fault hint) = hint
 job_hint (job.CannotOpen name) = []
-
--- the line below that of a failure: the line of a source, or what to do
-abbrev pub failure_hint : WhyFailure → List ℕ
-failure_hint (failure.Job f) = job_hint f
-failure_hint (failure.Read name) = []
-failure_hint (failure.NoFilter name) = no_filter_hint
-failure_hint (failure.Filter name fault hint) = hint
-failure_hint (failure.Capture name fault) = capture_hint fault
-failure_hint (failure.Input fault) = capture_hint fault
 
 -- a message as the end of a line
 abbrev pub with_newline : List ℕ → List ℕ
@@ -61,9 +54,15 @@ job_lines f = with_newline (failure_message f) ++ job_hint f
 abbrev pub header_lines : HeaderFault → List ℕ
 header_lines fault = with_newline (header_message fault) ++ capture_hint fault
 
--- why a request failed, with the line below
+-- why a request failed, after the name of the file at fault; below stands the line of a source, or what to do
 abbrev pub failure_lines : WhyFailure → List ℕ
-failure_lines f = with_newline (why_failure_message f) ++ failure_hint f
+failure_lines (failure.Job f) = job_lines f
+failure_lines (failure.Read name) = named (string_bytes name) ++ with_newline (tool_message Read)
+failure_lines (failure.NoFilter name) = concat (codes "cannot open " ∷ string_bytes name ∷ no_filter_hint ∷ [])
+failure_lines (failure.Filter name fault hint) =
+    named (string_bytes name) ++ (with_newline (filter_message fault) ++ hint)
+failure_lines (failure.Capture name fault) = named (string_bytes name) ++ header_lines fault
+failure_lines (failure.Input fault) = header_lines fault
 
 -- what a line begins with
 unfoldable pub start : List ℕ
@@ -81,10 +80,15 @@ exit_text NotUtf8 = codes "cbpf: an argument is not UTF-8\n"
 abbrev pub out_of_memory : Exit
 out_of_memory = Request (Err (failed Memory))
 
--- help was printed, or a write failed
-abbrev pub IsHelped : Result (Unit {0}) ToolFault → Type 0
-IsHelped (Ok x) = Unit {0}
-IsHelped (Err fault) = fault ≡ Write
+-- a text of help was written, or a beginning of it where a write failed
+abbrev pub Helped : Option (List ℕ) → Option (List ℕ) → List ℕ → Result (Unit {0}) ToolFault → Type 0
+Helped old new text (Ok x) = Appended old new text
+Helped old new text (Err fault) = AppendedPart old new text × (fault ≡ Write)
+
+-- how the program ends after that
+abbrev pub after_help : Result (Unit {0}) ToolFault → Exit
+after_help (Ok x) = Request (Ok None)
+after_help (Err fault) = Request (Err (failed fault))
 
 -- the exit status: that of the request, and 2 where there is none
 abbrev pub status_of : Exit → ℕ
@@ -97,13 +101,11 @@ abbrev pub IsLine : List (List ℕ) → Result ARequest LineFault → Type 0
 IsLine words (Ok request) = IsRequest (requested_for words) request × (line_faults words ≡ [])
 IsLine words (Err fault) = IsFaultOf (line_faults words) fault
 
--- a text of help, or a beginning of it where a write failed, went to the standard output. A reader that has closed its
--- pipe has seen enough
+-- a text of help went to the standard output, or there was no room for a buffer
 abbrev pub Explained : Hosted → Hosted → List ℕ → Exit → Type 0
 Explained old new text exit = ((new ≡ without_output old) × (exit ≡ out_of_memory))
     ⊎ ((part : List ℕ) × (new ≡ and_then (without_output old) (printed part ∷ []))
-    × AppendedPart (Some []) (Some part) text
-    × ((exit ≡ Request (Ok None)) ⊎ (exit ≡ Request (Err (failed Write)))))
+    × (done : Result (Unit {0}) ToolFault) × Helped (Some []) (Some part) text done × (exit ≡ after_help done))
 
 -- a request was done, help was given, or nothing was
 abbrev pub Does : Hosted → Hosted → Result ARequest LineFault → Exit → Type 0

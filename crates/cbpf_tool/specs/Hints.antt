@@ -25,9 +25,9 @@ magics = (0xa1 ∷ 0xb2 ∷ 0xc3 ∷ 0xd4 ∷ []) ∷ (0xd4 ∷ 0xc3 ∷ 0xb2 �
 abbrev pub is_capture : List ℕ → Bool
 is_capture text = list_any (λ magic. starts_with nat_eq text magic) magics
 
--- a filter that can't be opened
+-- the end of a line with the name of a filter that can't be opened, and the line below
 abbrev pub no_filter_hint : List ℕ
-no_filter_hint = codes "    FILTER is a file, such as <(tcpdump -r CAPTURE -ddd 'port 53')\n"
+no_filter_hint = codes "\n    FILTER is a file, such as <(tcpdump -r CAPTURE -ddd 'port 53')\n"
 
 -- a filter that is a capture
 abbrev pub swapped_hint : List ℕ

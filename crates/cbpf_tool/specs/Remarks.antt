@@ -14,7 +14,6 @@ use Rattle.cbpf_why.specs.declared.job.CaptureEnd.{CaptureEnd}
 use Rattle.cbpf_why.specs.declared.report.Report.{Report}
 use Rattle.cbpf_why.specs.declared.report.Report.TheVariants.{Summary, Traces, Packets, Coverage, Graph}
 use Rattle.cbpf_tool.specs.declared.remarks.Remarks.{Remarks}
-use Rattle.cbpf_tool.specs.declared.remarks.TheConstants.{ETHERNET, LINK_TYPES}
 
 -- whether a report is the summary
 abbrev pub is_summary : Report → Bool
@@ -55,15 +54,21 @@ abbrev pub line_start : Option (List ℕ) → List ℕ
 line_start None = codes "cbpf: "
 line_start (Some name) = concat (codes "cbpf: " ∷ name ∷ codes ": " ∷ [])
 
--- a link type other than Ethernet's; it has the lower 16 bits of the number in the file (pcap-savefile(5))
-abbrev pub link_line : Option (List ℕ) → ℕ → List ℕ
-link_line name link =
-    if link % LINK_TYPES == ETHERNET then []
-    else line_start name ++ with_number (codes "link type ") (link % LINK_TYPES) (codes ", not Ethernet\n")
-
 -- the last number of a range, which isn't said where it stands for the end
 abbrev pub last_text : ℕ → List ℕ
 last_text last = if last == to_end then [] else decimal last
+
+-- a link type that is not Ethernet's
+unfoldable pub link_text : ℕ → List ℕ
+link_text link = with_number (codes "link type ") link (codes ", not Ethernet\n")
+
+-- the line that says so
+abbrev pub other_link_line : Option (List ℕ) → ℕ → List ℕ
+other_link_line name link = line_start name ++ link_text link
+
+-- the same where it isn't, which is 1; the link type is in the lower 16 bits of a number in the file (pcap-savefile(5))
+abbrev pub link_line : Option (List ℕ) → ℕ → List ℕ
+link_line name link = if link % 2 ^ 16 == 1 then [] else other_link_line name (link % 2 ^ 16)
 
 -- a number that the capture lacks, or the first and the last one
 abbrev pub lacking_text : PacketRange → List ℕ

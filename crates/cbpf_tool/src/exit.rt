@@ -1,31 +1,34 @@
 //! What the program does with its words, what it says on standard error, and the status with which it ends.
 
-ghost use Rattle.std.specs.Prelude.{◌≡◌, ◌++◌, map, string_bytes};
+ghost use Rattle.std.specs.Prelude.{◌≡◌, ◌++◌, map, string_bytes, IfErr};
+ghost use Rattle.std.specs.Io.KnownBytes.{Keeps as KeepsBytes};
 ghost use Rattle.std.specs.Process.{exit_status};
-ghost use Rattle.cbpf_code.specs.Writing.{AppendedPart, Wrote};
+ghost use Rattle.cbpf_code.specs.Writing.{Wrote};
 ghost use Rattle.cbpf_command_line.specs.CommandLine.{text_of};
 ghost use Rattle.cbpf_text.specs.Messages.{fault_text};
 ghost use Rattle.cbpf_why.specs.Messages.{filter_message};
 ghost use Rattle.cbpf_tool.specs.Hosted.{IsReady};
 ghost use Rattle.cbpf_tool.specs.Messages.{tool_message};
 ghost use Rattle.cbpf_tool.specs.Exits as spec;
+ghost use Rattle.cbpf_tool.specs.declared.fault.ToolFault.TheVariants as fault;
 
 use crate::failure::Failure;
 use crate::fault::ToolFault;
-use crate::hints::{Hint, NO_FILTER, write_capture_hint};
+use crate::hints::{Hint, write_capture_hint};
 use crate::host::Host;
 use crate::remarks::{Remarks, write_remarks};
 use crate::request::read_request;
 use crate::run_job::{request_status, run_request};
 use crate::why_failure::{WhyFailure, failed};
-use cbpf_code::{WriteFault, write_bytes, write_parts, write_with_number};
+use cbpf_code::{WriteFault, write_bytes, write_parts};
 use cbpf_command_line::LineFault;
 use cbpf_reply::write_message;
 use cbpf_text::AsmFault;
 use cbpf_why::FilterFault;
+use itoa::Buffer;
 use pcap_classic::HeaderFault;
 use std::alloc::Global;
-use std::io::{self, ErrorKind, Write};
+use std::io::{ErrorKind, Write};
 use std::process::ExitCode;
 
 /// How the program ends.
@@ -61,15 +64,18 @@ impl Exit {
 }
 
 /// Writes why a source is refused, and a newline.
-#[tactic(auto, using(cbpf_code::proofs::WrittenLemmas::three, cbpf_code::proofs::WrittenLemmas::steps))]
 fn write_source_fault<W: Write>(w: &mut W, fault: AsmFault) -> Result<(), WriteFault>
     ensures { Wrote (W.contents w.old) (W.contents w.new) result (spec.with_newline (fault_text fault)) }
 {
     match fault {
         AsmFault::Memory => write_bytes(w, b"out of memory\n"),
         AsmFault::At(kind, line) => {
-            write_with_number(w, b"line ", line, b": ")?;
-            write_parts(w, &[kind.message().as_bytes(), b"\n"])
+            let mut number = Buffer::new();
+            let line = number.format(line).as_bytes();
+            write_parts(
+                w,
+                &[b"line ", line, b": ", kind.message().as_bytes(), b"\n"],
+            )
         }
     }
 }
@@ -159,11 +165,18 @@ fn write_failure<W: Write>(w: &mut W, failure: &WhyFailure) -> Result<(), WriteF
 {
     match failure {
         WhyFailure::Job(failure) => write_job_failure(w, failure),
-        WhyFailure::Read(name) => write_parts(w, &[name.as_str().as_bytes(), b": read fault\n"]),
-        WhyFailure::NoFilter(name) => {
-            write_unopened(w, name.as_str())?;
-            write_bytes(w, NO_FILTER)
+        WhyFailure::Read(name) => {
+            write_name(w, name.as_str())?;
+            write_tool_fault(w, ToolFault::Read)
         }
+        WhyFailure::NoFilter(name) => write_parts(
+            w,
+            &[
+                b"cannot open ",
+                name.as_str().as_bytes(),
+                b"\n    FILTER is a file, such as <(tcpdump -r CAPTURE -ddd 'port 53')\n",
+            ],
+        ),
         WhyFailure::Filter(name, fault, hint) => {
             write_filter_lines(w, name.as_str(), *fault, hint)
         }
@@ -204,26 +217,41 @@ pub fn write_exit<W: Write>(w: &mut W, exit: &Exit) -> Result<(), WriteFault>
     }
 }
 
-/// Writes a text whole, and flushes it.
-fn write_and_flush<W: Write>(w: &mut W, text: &[u8]) -> io::Result<()>
-    ensures { AppendedPart (W.contents w.old) (W.contents w.new) text.now }
+/// Flushes help. A reader that closes its pipe has seen enough of it.
+fn flush_help<W: Write>(w: &mut W) -> Result<(), ToolFault>
+    ensures kept { KeepsBytes (W.contents w.old) (W.contents w.new) }
+    ensures fault { IfErr result (λ e. e ≡ fault.Write) }
 {
-    w.write_all(text)?;
-    w.flush()
+    match w.flush() {
+        Ok(()) => Ok(()),
+        Err(e) => {
+            if e.kind() == ErrorKind::BrokenPipe {
+                Ok(())
+            } else {
+                Err(ToolFault::Write)
+            }
+        }
+    }
 }
 
-/// Writes a text of help. A reader that closes its pipe has seen enough of it.
+/// Writes a text of help.
+#[tactic(auto, using(crate::proofs::HostLemmas::helps))]
 fn write_help<W: Write>(w: &mut W, text: &[u8]) -> Result<(), ToolFault>
-    ensures part { AppendedPart (W.contents w.old) (W.contents w.new) text.now }
-    ensures fault { spec.IsHelped result }
+    ensures { spec.Helped (W.contents w.old) (W.contents w.new) text.now result }
 {
-    let Err(e) = write_and_flush(w, text) else {
-        return Ok(());
-    };
-    if e.kind() == ErrorKind::BrokenPipe {
-        Ok(())
-    } else {
-        Err(ToolFault::Write)
+    match write_bytes(w, text) {
+        Err(_) => Err(ToolFault::Write),
+        Ok(()) => flush_help(w),
+    }
+}
+
+/// How the program ends after help.
+fn after_help(done: Result<(), ToolFault>) -> Exit
+    ensures { result ≡ spec.after_help done }
+{
+    match done {
+        Ok(()) => Exit::Request(Ok(None)),
+        Err(fault) => Exit::Request(Err(failed(fault))),
     }
 }
 
@@ -237,10 +265,7 @@ fn explain<H: Host>(host: &mut H, text: String) -> Exit
     };
     let done = write_help(&mut writer, text.as_str().as_bytes());
     host.print(writer);
-    match done {
-        Ok(()) => Exit::Request(Ok(None)),
-        Err(fault) => Exit::Request(Err(failed(fault))),
-    }
+    after_help(done)
 }
 
 /// Does what the words of a command line ask for, of which the first is the program's own name. Help goes to the standard

@@ -13,10 +13,6 @@ use std::fmt;
 use std::io::Write;
 use std::marker::Model;
 
-/// Below a filter that can't be opened.
-pub(crate) const NO_FILTER: &[u8] =
-    b"    FILTER is a file, such as <(tcpdump -r CAPTURE -ddd 'port 53')\n";
-
 /// What is said below a fault: a line, or nothing.
 #[derive(Drop)]
 pub struct Hint {

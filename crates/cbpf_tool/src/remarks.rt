@@ -16,7 +16,7 @@ use std::io::Write;
 /// The link type of Ethernet.
 const ETHERNET: u32 = 1;
 
-/// A file has its link type in the lower 16 bits of a number. Others say whether its packets end with a check sequence.
+/// A file has its link type in the lower 16 bits of a number. The other bits say whether its packets end with a check sequence.
 const LINK_TYPES: u32 = 65_536;
 
 /// The last number of a range that goes to the end of the capture.
@@ -90,8 +90,30 @@ fn write_start<W: Write>(w: &mut W, capture: &Option<String>) -> Result<(), Writ
     }
 }
 
-/// Writes a line for a link type that is not Ethernet's.
+/// Writes a link type that is not Ethernet's.
+#[tactic(auto, unfolding(crate::specs::Remarks::link_text))]
+fn write_link<W: Write>(w: &mut W, link: u32) -> Result<(), WriteFault>
+    ensures { Wrote (W.contents w.old) (W.contents w.new) result (spec.link_text link) }
+{
+    write_with_number(w, b"link type ", u64::from(link), b", not Ethernet\n")
+}
+
+/// Writes a line for this link type.
 #[tactic(auto, using(cbpf_code::proofs::WrittenLemmas::three, cbpf_code::proofs::WrittenLemmas::steps))]
+fn write_other_link<W: Write>(
+    w: &mut W,
+    capture: &Option<String>,
+    link: u32,
+) -> Result<(), WriteFault>
+    ensures { Wrote (W.contents w.old) (W.contents w.new) result
+        (spec.other_link_line (option_map (λ n. string_bytes n) capture.now) link) }
+{
+    write_start(w, capture)?;
+    write_link(w, link)
+}
+
+/// Writes a line for a link type that is not Ethernet's.
+#[tactic(auto, using(cbpf_code::proofs::WrittenLemmas::steps))]
 fn write_link_line<W: Write>(
     w: &mut W,
     capture: &Option<String>,
@@ -102,10 +124,10 @@ fn write_link_line<W: Write>(
 {
     let link = link % LINK_TYPES;
     if link == ETHERNET {
-        return Ok(());
+        Ok(())
+    } else {
+        write_other_link(w, capture, link)
     }
-    write_start(w, capture)?;
-    write_with_number(w, b"link type ", u64::from(link), b", not Ethernet\n")
 }
 
 /// Puts the last number of a range, where it doesn't stand for the end.

@@ -1,6 +1,6 @@
 //! A line of a source as it is shown below the fault that names it.
 
-ghost use Rattle.std.specs.Prelude.{◌≡◌, ◌≤◌, ◌*◌, ◌-◌, ◌++◌, length};
+ghost use Rattle.std.specs.Prelude.{◌≡◌, ◌≤◌, ◌+◌, ◌*◌, ◌-◌, ◌++◌, length};
 ghost use Rattle.std.specs.List.{flat_map};
 ghost use Rattle.cbpf_code.specs.declared.writing.TheConstants.{LINE_SIZE};
 ghost use Rattle.cbpf_tool.specs.SourceLine as spec;
@@ -32,6 +32,7 @@ fn before_newline(text: &[u8]) -> &[u8]
 }
 
 /// What stands in a text from this line on.
+#[tactic(auto, using(crate::proofs::SourceLineLemmas::newlines))]
 fn from_line(text: &[u8], number: u64) -> &[u8]
     ensures { result.now ≡ spec.after_newlines (number - 1) text.now }
 {
@@ -50,7 +51,7 @@ fn prepend_shown(line: &mut Line, b: u8)
     ensures text { line.new ≡ spec.shown_byte b ++ line.old }
     ensures grown { length line.new ≤ length line.old + 4 }
 {
-    if b == b'\t' {
+    if b == b'\t' || b == b'\r' {
         line.prepend(b" ");
     } else if 32 <= b && b < 127 {
         line.prepend(&[b]);
@@ -73,6 +74,17 @@ fn prepend_all_shown(line: &mut Line, bytes: &[u8])
     }
 }
 
+/// Puts dots where not all of a line is shown.
+fn prepend_dots(line: &mut Line, bytes: &[u8])
+    requires room { length line.old + 3 ≤ LINE_SIZE }
+    ensures text { line.new ≡ spec.dots bytes.now ++ line.old }
+    ensures grown { length line.new ≤ length line.old + 3 }
+{
+    if bytes.len() > SHOWN {
+        line.prepend(b"...");
+    }
+}
+
 /// The line of this number, as it is shown: after four blanks, with its newline. An empty line is not.
 pub(crate) fn shown_line(text: &[u8], number: u64) -> Line
     ensures { result ≡ spec.shown_line (spec.line_at text.now number) }
@@ -83,9 +95,7 @@ pub(crate) fn shown_line(text: &[u8], number: u64) -> Line
         return line;
     }
     line.prepend(b"\n");
-    if bytes.len() > SHOWN {
-        line.prepend(b"...");
-    }
+    prepend_dots(&mut line, bytes);
     prepend_all_shown(&mut line, &bytes[..bytes.len().min(SHOWN)]);
     line.prepend(b"    ");
     line

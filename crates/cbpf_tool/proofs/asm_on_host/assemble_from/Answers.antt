@@ -1,5 +1,10 @@
+use Rattle.std.proofs.Common.{Err, inl, refl}
+use Rattle.cbpf_tool.specs.declared.fault.ToolFault.TheVariants.{Memory}
 use Rattle.cbpf_tool.proofs.HostLemmas.{assembled-printed}
 use Rattle.cbpf_tool.proofs.asm_on_host.assemble_from.Goals as goal
+
+pub returns-in_default : goal.returns-in_default
+returns-in_default g c = λ ready source e. (Err Memory, refl, inl (c.output.ensures.left ready.0, refl))
 
 pub returns : goal.returns
 returns g c = λ ready source e.
