@@ -1,5 +1,5 @@
 -- What one packet of a checked program executes of each block.
-use Rattle.std.proofs.Common.{◌≡◌, ℕ, zero, suc, ◌+◌, ◌-◌, ◌<◌, ◌≤◌, List, [], ◌∷◌, length, take, take_all, arith, refl, sym, ap, ◌∙◌, inl, inr}
+use Rattle.std.proofs.Common.{◌≡◌, ℕ, zero, suc, ◌+◌, ◌<◌, ◌≤◌, List, [], ◌∷◌, length, take, take_all, arith, refl, sym, ap, ◌∙◌, inl, inr}
 use Rattle.std.specs.Prelude.{Bool, true, false, Some, None, ◌==◌, ◌||◌, ◌⊎◌, nat_eq, slice_get, if◌then◌else◌}
 use Rattle.std.specs.List.{list_any, enumerate_from}
 use Rattle.std.proofs.lemmas.Bool.{cases_eq}
@@ -12,7 +12,7 @@ use Rattle.cbpf_code.specs.declared.opcode.Op.TheVariants.{Ja, Jump, RetK, RetA}
 use Rattle.cbpf_machine.specs.Choices.{executed_in}
 use Rattle.cbpf_machine.specs.OnPacket.{OnPacket, IsOnTrace, trace_in, turn_in}
 use Rattle.cbpf_machine.specs.Registers.{Registers, zero_state}
-use Rattle.cbpf_machine.specs.Trace.{last_or, next_of, trace}
+use Rattle.cbpf_machine.specs.Trace.{last_or, next_of}
 use Rattle.cbpf_machine.specs.Turn.{compares, execute, jump, operand}
 use Rattle.cbpf_machine.specs.Values.{Values}
 use Rattle.cbpf_machine.specs.declared.outcome.Turn.TheVariants.{Next}
@@ -20,13 +20,12 @@ use Rattle.cbpf_machine.proofs.RunningLemmas.{take_next}
 use Rattle.cbpf_machine.proofs.TogetherLemmas.{turn_by}
 use Rattle.cbpf_machine.proofs.TraceLemmas.{goes_from_entry, goes_last, goes_next, trace-is_run, turn_cases, turn_on}
 use Rattle.cbpf_machine.proofs.TurnLemmas.{execute_on, jumps}
-use Rattle.cbpf_why.specs.Ends.{alone, ended}
 use Rattle.cbpf_why.specs.Graph.{begins_block, block_of, opened_by, opens}
 use Rattle.cbpf_why.proofs.BlockLemmas.{enum_at}
 use Rattle.cbpf_why.proofs.GroupLawLemmas.{itself}
 use Rattle.cbpf_why.proofs.StepLemmas.{last_is}
 use Rattle.cbpf_why.proofs.InstructionLemmas.{Found, find, there_too}
-use Rattle.cbpf_why.proofs.StraightLemmas.{last_entry, on}
+use Rattle.cbpf_why.proofs.StraightLemmas.{last_entry}
 
 or_true : (b : Bool) → (b || true) ≡ true
 or_true true = refl

@@ -1,5 +1,5 @@
 -- Blanks that are cut from an array of them, and the longest of a program's first instructions.
-use Rattle.std.proofs.Common.{◌≡◌, ◌≤◌, ◌∙◌, ℕ, zero, suc, ◌+◌, List, [], ◌∷◌, take, max, refl, ap, arith}
+use Rattle.std.proofs.Common.{◌≡◌, ◌≤◌, ◌∙◌, ℕ, zero, suc, ◌+◌, List, ◌∷◌, take, max, refl, ap, arith}
 use Rattle.std.specs.Prelude.{replicate}
 use Rattle.std.proofs.lemmas.List.{take-replicate}
 use Rattle.cbpf_code.specs.Text.{spaces}

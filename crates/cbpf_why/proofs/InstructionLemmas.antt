@@ -1,6 +1,6 @@
 -- Where an instruction goes on and how it ends a packet: by the instruction alone, and for a conditional jump by whether
 -- its comparison holds.
-use Rattle.std.proofs.Common.{◌≡◌, ℕ, ◌+◌, ◌-◌, ◌<◌, List, length, arith, refl, sym, ap, ◌∙◌, get_or}
+use Rattle.std.proofs.Common.{◌≡◌, ℕ, ◌+◌, ◌<◌, List, length, refl, sym, ap, ◌∙◌, get_or}
 use Rattle.std.proofs.Common.{◌%◌, ◌^◌}
 use Rattle.std.specs.Prelude.{Bool, true, false, Option, Some, None, slice_get, if◌then◌else◌, is_some, unwrap_or}
 use Rattle.std.specs.Option.{option_map_or}

@@ -121,10 +121,7 @@ fn list_of<A: Allocator + Copy>(alloc: A, text: &mut [u8]) -> Result<Vec<Insn, A
 /// # Errors
 ///
 /// `Source`, `Words` or `Check` with why the text is no program; `Memory` where the allocator refused.
-pub fn program_of<A: Allocator + Copy>(
-    alloc: A,
-    text: &mut [u8],
-) -> Result<Program<A>, FilterFault>
+pub fn program_of<A: Allocator + Copy>(alloc: A, text: &mut [u8]) -> Result<Program<A>, FilterFault>
     ensures program { IfOk result (λ p. spec.IsFilter text.old p) }
     ensures refused { IfErr result (spec.IsNoFilter text.old) }
     ensures kept { spec.are_words text.old ≡ false → text.new ≡ text.old }

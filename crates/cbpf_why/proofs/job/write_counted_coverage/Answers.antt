@@ -17,6 +17,6 @@ returns g c = λ records tallies.
     rw (texts-same (λ i. line (length (decimal (runs_at runs 0).executed)) i (runs_at runs i).executed (runs_at runs i).taken)
     (coverage_at m records)
     (λ i.
-        ap (λ (r : Runs). line (length (decimal r.executed)) i (runs_at runs i).executed (runs_at runs i).taken) (tallies.runs 0)
-        ∙ ap (λ (r : Runs). line (widest m records) i r.executed r.taken) (tallies.runs i)) 0 (length m.list))
+    ap (λ (r : Runs). line (length (decimal r.executed)) i (runs_at runs i).executed (runs_at runs i).taken) (tallies.runs 0)
+    ∙ ap (λ (r : Runs). line (widest m records) i r.executed r.taken) (tallies.runs i)) 0 (length m.list))
     at (rw c.runs.ensures at c.write_coverage.ensures)
