@@ -302,13 +302,13 @@ len: 42 wire: 42
    32: 00 00 00 00 00 00 00 00 00 00
 """
 TRACE = """packet 1
-l0:	ldh [12]	A 0 (0x0) X 0 (0x0)
+l0:	ldh [12]          	A 0 (0x0) X 0 (0x0)
 l1:	jeq #0x806, l2, l3	A 2054 (0x806) X 0 (0x0)	to l2
-l2:	ret #0xffffffff	A 2054 (0x806) X 0 (0x0)
+l2:	ret #0xffffffff   	A 2054 (0x806) X 0 (0x0)
 pass at l1:	jeq #0x806, l2, l3, true with A 2054 (0x806) X 0 (0x0), then l2:	ret #0xffffffff
 """
 MARK = """packet 3
-l0:	ld mark	A 0 (0x0) X 0 (0x0)
+l0:	ld mark 	A 0 (0x0) X 0 (0x0)
 l1:	ret #0x1	A 9 (0x9) X 0 (0x0)
 pass at l1:	ret #0x1
 """
