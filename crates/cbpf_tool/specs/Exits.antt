@@ -42,7 +42,7 @@ with_newline message = message ++ codes "\n"
 abbrev pub unopened_line : List ℕ → List ℕ
 unopened_line name = with_newline (codes "cannot open " ++ name)
 
--- what is wrong with a file, after its name
+-- the name of a file, before what is wrong with it
 abbrev pub named : List ℕ → List ℕ
 named name = name ++ codes ": "
 

@@ -16,10 +16,11 @@ abbrev pub source_hint : List ℕ → AsmFault → List ℕ
 source_hint text asm.Memory = []
 source_hint text (asm.At kind line) = shown_line (line_at text line)
 
--- the magic numbers of captures, in both byte orders
+-- how captures begin: with a magic number in either byte order, or as pcapng or gzip do
 abbrev pub magics : List (List ℕ)
 magics = (0xa1 ∷ 0xb2 ∷ 0xc3 ∷ 0xd4 ∷ []) ∷ (0xd4 ∷ 0xc3 ∷ 0xb2 ∷ 0xa1 ∷ [])
-    ∷ (0xa1 ∷ 0xb2 ∷ 0x3c ∷ 0x4d ∷ []) ∷ (0x4d ∷ 0x3c ∷ 0xb2 ∷ 0xa1 ∷ []) ∷ []
+    ∷ (0xa1 ∷ 0xb2 ∷ 0x3c ∷ 0x4d ∷ []) ∷ (0x4d ∷ 0x3c ∷ 0xb2 ∷ 0xa1 ∷ [])
+    ∷ (0x0a ∷ 0x0d ∷ 0x0d ∷ 0x0a ∷ []) ∷ (0x1f ∷ 0x8b ∷ []) ∷ []
 
 -- a text begins as a capture does
 abbrev pub is_capture : List ℕ → Bool
@@ -40,7 +41,7 @@ filter_hint text (filter.Words fault) = []
 filter_hint text (filter.Check fault) = []
 filter_hint text filter.Memory = []
 
--- the name of a format by its first four bytes, and the command that makes a classic capture of such a file
+-- the name of a format by its first four bytes, and the command that converts or unpacks such a file
 abbrev pub format_of : ℕ → Option (List ℕ × List ℕ)
 format_of magic =
     if magic == 0x0a0d0d0a then Some (codes "pcapng", codes "tcpdump -w - -r")

@@ -21,7 +21,7 @@ JobDone old new (Asm form file) r = AsmDone old new form (option_map (λ n. stri
 JobDone old new (Dbg input output) r =
     DbgDone old new (option_map (λ n. string_bytes n) input) (option_map (λ n. string_bytes n) output) r
 
--- the result of the program's two jobs as that of a request
+-- the result of `asm` or `dbg` as that of a request
 abbrev pub as_request : Result (Unit {0}) Failure → Result (Option Remarks) WhyFailure
 as_request (Ok x) = Ok None
 as_request (Err e) = Err (why_failure.Job e)

@@ -34,7 +34,7 @@ use std::process::ExitCode;
 /// How the program ends.
 #[derive(Debug, Drop)]
 pub enum Exit {
-    /// A request was done, or failed. Help was printed where there is nothing to say.
+    /// A request was done, or failed; or help was printed, which is `Ok(None)`.
     Request(Result<Option<Remarks>, WhyFailure>),
     /// The command line is refused with this text.
     Refused(String),
@@ -43,7 +43,7 @@ pub enum Exit {
 }
 
 impl Exit {
-    /// The program had no memory for its words.
+    /// The program had no memory.
     pub fn out_of_memory() -> Exit
         ensures { result ≡ spec.out_of_memory }
     {

@@ -69,6 +69,8 @@ fn is_capture(text: &[u8]) -> bool
         || text.starts_with(b"\xd4\xc3\xb2\xa1")
         || text.starts_with(b"\xa1\xb2\x3c\x4d")
         || text.starts_with(b"\x4d\x3c\xb2\xa1")
+        || text.starts_with(b"\x0a\x0d\x0d\x0a")
+        || text.starts_with(b"\x1f\x8b")
 }
 
 /// Below a filter that is a capture.
@@ -91,7 +93,7 @@ pub(crate) fn filter_hint(text: &[u8], fault: FilterFault) -> Hint
     }
 }
 
-/// The name of a format by its first four bytes, and the command that makes a classic capture of such a file.
+/// The name of a format by its first four bytes, and the command that converts or unpacks such a file.
 fn format_of(magic: u32) -> Option<(&'static [u8], &'static [u8])>
     ensures { option_map (λ f. (f.0.now, f.1.now)) result ≡ spec.format_of magic }
 {

@@ -17,7 +17,7 @@ use cbpf_command_line::Job;
 use std::alloc::Allocator;
 use std::process::ExitCode;
 
-/// Runs one of the program's two jobs on a machine.
+/// Runs `asm` or `dbg` on a machine.
 fn run_on<A: Allocator, H: Host>(alloc: A, host: &mut H, job: Job) -> Result<(), Failure>
     ensures { IsReady (H.view host.old) → spec.JobDone (H.view host.old) (H.view host.new) job result }
 {

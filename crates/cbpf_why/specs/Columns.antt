@@ -5,7 +5,7 @@ use Rattle.cbpf_code.specs.Listing.{head, line_text}
 use Rattle.cbpf_code.specs.Text.{spaces}
 use Rattle.cbpf_code.specs.declared.insn.Insn.{Insn}
 
--- how long an instruction is after its label and the tab, which are never longer than one column
+-- how long an instruction is after its label and the tab, which together never go past the first tab stop
 abbrev pub length_at : List Insn → ℕ → ℕ
 length_at list i = length (line_text list i) - length (head i [])
 

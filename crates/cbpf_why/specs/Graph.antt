@@ -142,7 +142,7 @@ edges_of i f (Some insn) = edges_by i insn f (op_of insn.code)
 abbrev pub edges_text : ℕ → List Edge → List ℕ
 edges_text block edges = flat_map (λ e. edge block e.to e.word e.count) edges
 
--- how a block begins and ends
+-- how the node of a block begins
 abbrev pub block_head : ℕ → List ℕ
 block_head block = concat (node block ∷ codes " [label=<" ∷ [])
 

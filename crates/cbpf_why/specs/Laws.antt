@@ -97,7 +97,7 @@ abbrev pub ended_in_block : Machine → List Record → ℕ → ℕ → ℕ
 ended_in_block m records block j =
     if block_of m.list j == block then ended_in (facts_at m records (alone_of m records) j) else 0
 
--- the runs of a block are the counts of the edges from it and of the packets that ended in it
+-- the runs of a block are the sum of the counts of the edges from it and of the packets that ended in it
 abbrev pub BlocksSum : Type 0
 BlocksSum = (m : Machine) → IsSound m.list → (records : List Record) (i : ℕ) → i < length m.list → is_last m.list i ≡ true
     → executed m records (block_of m.list i)
