@@ -276,6 +276,12 @@ def header(order="<", magic=MICROSECONDS, link=1):
     return struct.pack(f"{order}IHHIIII", magic, 2, 4, 0, 0, 65535, link)
 
 
+def link_of(capture):
+    """The lower 16 bits of the last number of a header."""
+    order = "<" if capture[0] in (0xD4, 0x4D) else ">"
+    return struct.unpack(f"{order}I", capture[20:24])[0] % 2**16
+
+
 def record(packet, wire=None, order="<"):
     return struct.pack(f"{order}IIII", 1, 0, len(packet), len(packet) if wire is None else wire) + packet
 
@@ -475,8 +481,10 @@ def agrees_with_loads(program, folder, captures):
     said = iter(replies(program, folder, script))
     (folder / "filter").write_text("ret #1")
     for name, _, loaded, run in zip(captures, said, said, said):
-        got = ran([program, "why", "filter", name], folder)
-        yield from fault_of(name, got, words_of_load(loaded, run, name))
+        printed, errors, status = words_of_load(loaded, run, name)
+        if status == 0 and (link := link_of(captures[name])) != 1:
+            errors = [f"cbpf: {name}: link type {link}, not Ethernet", *errors]
+        yield from fault_of(name, ran([program, "why", "filter", name], folder), (printed, errors, status))
 
 
 def cut_at_each_byte(program, folder):
