@@ -30,8 +30,8 @@ pub fn laws_of_groups()
     ensures alike { GroupsEndAlike }
 {}
 
-/// In the graph of a checked program each block's runs are the sum of the counts of the edges from it and of the packets that ended in
-/// it. Each edge leads to a node, which is that of the block that begins there.
+/// In the graph of a checked program each block's runs are the sum of the counts of the edges from it and of the packets
+/// that ended in it. Each edge leads to a node, which is that of the block that begins there.
 pub fn laws_of_graphs()
     ensures sums { BlocksSum }
     ensures leads { EdgesLead }
