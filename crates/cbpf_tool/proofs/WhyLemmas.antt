@@ -1,5 +1,5 @@
 -- What `why` did on its machine.
-use Rattle.std.proofs.Common.{◌≡◌, ℕ, List, [], ◌∷◌, Option, Some, None, Result, Ok, Err, inl, inr, refl, ap, false}
+use Rattle.std.proofs.Common.{◌≡◌, ℕ, List, [], ◌∷◌, Option, Some, None, Result, Ok, Err, inl, inr, refl, ap}
 use Rattle.std.specs.Prelude.{IsSomeAnd}
 use Rattle.std.specs.FinMap as map
 use Rattle.cbpf_code.specs.declared.insn.Insn.{Insn}
@@ -8,7 +8,7 @@ use Rattle.pcap_classic.specs.Savefile.{Savefile}
 use Rattle.pcap_classic.specs.declared.reading.OpenFault.{OpenFault}
 use Rattle.pcap_classic.specs.declared.reading.OpenFault.TheVariants.{Header, Read as ReadAt}
 use Rattle.pcap_classic.specs.declared.reading.ReadFault.TheVariants as read_fault
-use Rattle.cbpf_why.specs.Filters.{are_words, IsNoFilter}
+use Rattle.cbpf_why.specs.Filters.{text_after, IsNoFilter}
 use Rattle.cbpf_why.specs.Reports.{Reported}
 use Rattle.cbpf_why.specs.declared.filter.FilterFault.{FilterFault}
 use Rattle.cbpf_why.specs.declared.filter.FilterFault.TheVariants as filter
@@ -24,9 +24,9 @@ use Rattle.cbpf_tool.specs.declared.why_failure.WhyFailure.{WhyFailure}
 use Rattle.cbpf_tool.proofs.HostLemmas.{appended-some, part-some}
 
 -- what is said below a filter that is refused goes by its text, which stays where it is a source
-pub hinted : (old new : List ℕ) (fault : FilterFault) → IsNoFilter old fault → (are_words old ≡ false → new ≡ old)
+pub hinted : (old new : List ℕ) (fault : FilterFault) → IsNoFilter old fault → new ≡ text_after old
     → filter_hint new fault ≡ filter_hint old fault
-hinted old new (filter.Source f) h k = ap (λ text. filter_hint text (filter.Source f)) (k h.0)
+hinted old new (filter.Source f) h k = ap (λ text. filter_hint text (filter.Source f)) (rw h.0 at k)
 hinted old new (filter.Words f) h k = refl
 hinted old new (filter.Check f) h k = refl
 hinted old new filter.Memory h k = refl

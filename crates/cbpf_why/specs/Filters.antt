@@ -27,6 +27,10 @@ with_comma b = if b == 10 then 44 else b
 abbrev pub word_text_of : List ℕ → List ℕ
 word_text_of text = if list_any (λ b. b == 44) text then text else map with_comma text
 
+-- what is left of a text: its word text, where it is words
+abbrev pub text_after : List ℕ → List ℕ
+text_after text = if are_words text then word_text_of text else text
+
 -- the instructions that a text has
 abbrev pub Reads : List ℕ → List Insn → Type 0
 Reads text list = MatchBool (are_words text) (Spells (word_text_of text) list) (Assembles text list)

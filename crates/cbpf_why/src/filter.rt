@@ -1,6 +1,6 @@
 //! Programs by the text of a filter.
 
-ghost use Rattle.std.specs.Prelude.{◌≡◌, IfOk, IfErr, false};
+ghost use Rattle.std.specs.Prelude.{◌≡◌, IfOk, IfErr};
 ghost use Rattle.cbpf_code.specs.WordText.{Spells};
 ghost use Rattle.cbpf_text.specs.Assembled.{Assembles};
 ghost use Rattle.cbpf_why.specs.Filters as spec;
@@ -104,7 +104,7 @@ fn source_list<A: Allocator + Copy>(alloc: A, text: &[u8]) -> Result<Vec<Insn, A
 fn list_of<A: Allocator + Copy>(alloc: A, text: &mut [u8]) -> Result<Vec<Insn, A>, FilterFault>
     ensures ok { IfOk result (λ list. spec.Reads text.old list.items) }
     ensures fault { IfErr result (spec.IsNoFilter text.old) }
-    ensures kept { spec.are_words text.old ≡ false → text.new ≡ text.old }
+    ensures left { text.new ≡ spec.text_after text.old }
 {
     if are_words(text) {
         put_commas(text);
@@ -124,7 +124,7 @@ fn list_of<A: Allocator + Copy>(alloc: A, text: &mut [u8]) -> Result<Vec<Insn, A
 pub fn program_of<A: Allocator + Copy>(alloc: A, text: &mut [u8]) -> Result<Program<A>, FilterFault>
     ensures program { IfOk result (λ p. spec.IsFilter text.old p) }
     ensures refused { IfErr result (spec.IsNoFilter text.old) }
-    ensures kept { spec.are_words text.old ≡ false → text.new ≡ text.old }
+    ensures left { text.new ≡ spec.text_after text.old }
 {
     let list = list_of(alloc, text)?;
     match Program::new(list) {

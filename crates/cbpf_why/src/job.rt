@@ -212,7 +212,6 @@ fn end_read<R: Read, A: Allocator>(
 /// `Read` or `Memory` where no further record could be read: what was to be written of the packets before was written,
 /// but nothing of all together. `Memory` also where there is no room for the counts, or for the blocks of a graph.
 /// `Write` where a write or a flush failed: a beginning of the text was written.
-#[tactic(auto, using(crate::proofs::ReportLemmas::left_after, crate::proofs::ReportLemmas::within_after))]
 pub fn why<P: Allocator, A: Allocator + Copy, R: Read, B: Allocator, W: Write>(
     alloc: A,
     question: &Question<'_, P>,

@@ -1,7 +1,7 @@
-use Rattle.std.proofs.Common.{◌≡◌, ap, refl, rules, Err}
+use Rattle.std.proofs.Common.{◌≡◌, ap, refl, rules, Err, Ok}
 use Rattle.cbpf_why.specs.Question.{machine_in}
 use Rattle.cbpf_why.proofs.CountedLemmas.{took-nothing}
-use Rattle.cbpf_why.proofs.ReportLemmas.{broke, complete, unclosed, unflushed, unstarted}
+use Rattle.cbpf_why.proofs.ReportLemmas.{broke, complete, left_after, unclosed, unflushed, unstarted, within_after}
 use Rattle.cbpf_why.proofs.job.why.Goals as goal
 
 pub take_packets-requires-clause-took : goal.take_packets-requires-clause-took
@@ -43,3 +43,35 @@ returns-clause-reported g c =
     complete c.args.question.now c.args.reader.now c.take_packets.new.reader c.take_packets.new.counted _ _ _
     c.in_ok-is_over.is_over _ _ went c.in_ok-is_over.ensures.1 c.end_read-end.ensures.numbered c.end_read-end.ensures.end
     c.shown_end-shown.ensures _ (c.in_ok-write_closing.ensures.wrote went.records went.took) c.flush.ensures.bytes
+
+pub returns-in_err-is_over-clause-left : goal.returns-in_err-is_over-clause-left
+returns-in_err-is_over-clause-left g c =
+    left_after c.args.question.now c.args.reader.now c.take_packets.new.reader c.take_packets.new.counted _ _ (Err c.in_err-is_over.field-0.0) c.in_err-is_over.ensures
+
+pub returns-in_err-write_closing-clause-left : goal.returns-in_err-write_closing-clause-left
+returns-in_err-write_closing-clause-left g c =
+    left_after c.args.question.now c.args.reader.now c.take_packets.new.reader c.take_packets.new.counted _ _ (Ok c.in_ok-is_over.is_over) c.in_ok-is_over.ensures
+
+pub returns-then-is_err-clause-left : goal.returns-then-is_err-clause-left
+returns-then-is_err-clause-left g c =
+    left_after c.args.question.now c.args.reader.now c.take_packets.new.reader c.take_packets.new.counted _ _ (Ok c.in_ok-is_over.is_over) c.in_ok-is_over.ensures
+
+pub returns-clause-left : goal.returns-clause-left
+returns-clause-left g c =
+    left_after c.args.question.now c.args.reader.now c.take_packets.new.reader c.take_packets.new.counted _ _ (Ok c.in_ok-is_over.is_over) c.in_ok-is_over.ensures
+
+pub returns-in_err-is_over-clause-within : goal.returns-in_err-is_over-clause-within
+returns-in_err-is_over-clause-within g c =
+    within_after c.args.question.now c.args.reader.now c.take_packets.new.reader c.take_packets.new.counted _ _ (Err c.in_err-is_over.field-0.0) c.in_err-is_over.ensures
+
+pub returns-in_err-write_closing-clause-within : goal.returns-in_err-write_closing-clause-within
+returns-in_err-write_closing-clause-within g c =
+    within_after c.args.question.now c.args.reader.now c.take_packets.new.reader c.take_packets.new.counted _ _ (Ok c.in_ok-is_over.is_over) c.in_ok-is_over.ensures
+
+pub returns-then-is_err-clause-within : goal.returns-then-is_err-clause-within
+returns-then-is_err-clause-within g c =
+    within_after c.args.question.now c.args.reader.now c.take_packets.new.reader c.take_packets.new.counted _ _ (Ok c.in_ok-is_over.is_over) c.in_ok-is_over.ensures
+
+pub returns-clause-within : goal.returns-clause-within
+returns-clause-within g c =
+    within_after c.args.question.now c.args.reader.now c.take_packets.new.reader c.take_packets.new.counted _ _ (Ok c.in_ok-is_over.is_over) c.in_ok-is_over.ensures
