@@ -139,6 +139,7 @@ unreleased: unchanged
 		echo 'CHANGES.md has items below `## Next`, so this is not $(VERSION), which was released before them.' >&2; exit 1; }
 
 dist: unreleased ## Makes out/cbpf-VERSION-x86_64-linux.tar.gz: what `install` puts, the program stripped, with a script that installs it.
+	@test -n "$$DIST" || { echo 'DIST is empty.' >&2; exit 1; }
 	@rm -rf "$$DIST/$(PACKAGE)" "$$DIST/$(PACKAGE).tar.gz"
 	@PACKED="$$DIST/$(PACKAGE)" \
 		$(MAKE) -s --no-print-directory install DESTDIR='$$(value PACKED)' PREFIX=/ CBPF_PLACE=. > /dev/null
@@ -147,9 +148,10 @@ dist: unreleased ## Makes out/cbpf-VERSION-x86_64-linux.tar.gz: what `install` p
 	@install -m 644 tools/package/README "$$DIST/$(PACKAGE)/README"
 	@cd "$$DIST/$(PACKAGE)" && find * -type f | LC_ALL=C sort | xargs sha256sum > ../SHA256SUMS && mv ../SHA256SUMS .
 	@cd "$$DIST" && chmod -R u=rwX,go=rX "$(PACKAGE)" && tar --sort=name --format=ustar --owner=0 --group=0 \
-		--numeric-owner --mtime='$(DATE) 00:00 UTC' -c "$(PACKAGE)" | gzip -9n > "$(PACKAGE).tar.gz"
+		--numeric-owner --mtime='$(DATE) 00:00 UTC' -cf "$(PACKAGE).tar" "$(PACKAGE)" && gzip -9n "$(PACKAGE).tar" \
+		|| { rm -rf "$(PACKAGE)" "$(PACKAGE).tar"; exit 1; }
 	@rm -rf "$$DIST/$(PACKAGE)"
 	@printf '%s\n' "$(PACKAGE).tar.gz is in $$DIST"
 
 clean: ## Removes what was built and what the checks kept.
-	rm -rf crates/*/out out
+	rm -rf crates/*/out out */__pycache__
