@@ -382,10 +382,7 @@ fn check_large_row(rt: &impl DiskTest, row: usize, content: &LargeRow) {
     check_row(rt, row, &(over(call, &bytes), least, most));
 }
 
-/// Each growth of the reading of word text is refused, and only then is it out of memory.
-/// Each growth of `tokens` is refused, and only then is it out of memory.
-/// Each growth of `assemble` is refused, and only then is it out of memory.
-/// Each growth of `from_bytes` is refused, and only then is it out of memory.
+/// Each growth of each call is refused, and only then is it out of memory.
 #[test]
 fn each_growth_of_a_call(rt: HostRuntime) {
     for (row, content) in ROWS.iter().enumerate() {
