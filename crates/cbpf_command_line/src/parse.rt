@@ -33,15 +33,8 @@ const EXAMPLES: &str = "Examples:
   Run the debugger's commands in a file:
     $ cbpf dbg session.dbg
 
-Exit status:
-  0  done, also where the debugger refused commands (its replies `error: ..`)
-  1  a source, a filter or a capture was refused, the capture has no packet of
-     a number that was asked for, a file could not be opened, reading or
-     writing failed, or memory ran out
-  2  the command line was refused
-
 The cause and cure of each error stand in share/doc/cbpf/REFERENCE.md, below
-the place where cbpf is installed. The manual page lists the errors.";
+the place where cbpf is installed. The manual page lists errors and statuses.";
 
 const ASM_ABOUT: &str = "Assembles a filter's source, and writes its instructions";
 

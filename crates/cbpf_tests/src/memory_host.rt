@@ -7,8 +7,8 @@ ghost use Rattle.cbpf_tests.specs.Events.{event};
 
 use crate::assertions::Test;
 use crate::done::Done;
-use cbpf_tool::{CreateFault, Failure, Files, Form, Host, LoadFault, ToolFault, asm_job, dbg_job};
-use memory_tests::inputs::{ARP, ARP_WORDS};
+use cbpf_tool::{CreateFault, Failure, Files, Form, Host, LoadFault, ToolFault, asm_job};
+use memory_tests::inputs::ARP;
 use session_tests::fault_injection::FaultyAllocator;
 use session_tests::inputs::TWO_PACKETS;
 use std::alloc::Allocator;
@@ -153,12 +153,8 @@ impl<'a, R: Test, A: Allocator + Copy> Host for MemoryHost<'a, R, A> {
     }
 }
 
-/// A script, a source whose name is `-`, and a capture.
-static FILES: [File; 3] = [
-    ("script", b"load pcap k\nquit\n"),
-    ("-", ARP),
-    ("k", TWO_PACKETS),
-];
+/// A source whose name is `-`, and a capture.
+static FILES: [File; 2] = [("-", ARP), ("k", TWO_PACKETS)];
 
 pub(crate) fn machine<R: Test, A: Allocator + Copy>(rt: &R, alloc: A) -> MemoryHost<'_, R, A> {
     MemoryHost {
@@ -170,10 +166,6 @@ pub(crate) fn machine<R: Test, A: Allocator + Copy>(rt: &R, alloc: A) -> MemoryH
         refusal: None,
         log: Vec::new(rt.alloc()),
     }
-}
-
-fn named<R: Test>(rt: &R, name: &str) -> Option<String> {
-    Some(String::from_str(rt.alloc(), name).expect(rt, "a name"))
 }
 
 /// An entry of a log: what was done, a name and a text.
@@ -198,62 +190,6 @@ pub(crate) fn has_entries(log: &[Done], wanted: &[Entry]) -> bool {
         }
     }
     log.len() == wanted.len()
-}
-
-fn assert_unopened(rt: &impl Abort, outcome: Result<(), Failure>, name: &str) {
-    let is_of_name = matches!(&outcome, Err(Failure::CannotOpen(file)) if file.as_str() == name);
-    assert!(rt; is_of_name);
-}
-
-/// On a machine in memory, an input that is missing leaves no output created.
-#[test]
-fn an_input_that_is_missing_leaves_no_output_created(rt: HostRuntime) {
-    let mut host = machine(&rt, rt.alloc());
-    let (script, out) = (named(&rt, "gone"), named(&rt, "out"));
-    assert_unopened(&rt, dbg_job(rt.alloc(), &mut host, script, out), "gone");
-    assert!(rt; has_entries(&host.log, &[("not opened", b"gone", b"")]));
-}
-
-/// On a machine in memory, an output that can't be created ends the job with its name.
-#[test]
-fn an_output_that_is_not_created_ends_the_job(rt: HostRuntime) {
-    let mut host = machine(&rt, rt.alloc());
-    host.refusal = Some(CreateFault::NotCreated);
-    let (script, out) = (named(&rt, "script"), named(&rt, "out"));
-    let result = dbg_job(rt.alloc(), &mut host, script, out);
-    assert_unopened(&rt, result, "out");
-    let wanted: [Entry; 2] = [("opened", b"script", b""), ("not created", b"out", b"")];
-    assert!(rt; has_entries(&host.log, &wanted));
-}
-
-/// On a machine in memory, the replies stand in the output that is named.
-#[test]
-fn the_replies_stand_in_the_output_file(rt: HostRuntime) {
-    let mut host = machine(&rt, rt.alloc());
-    let (script, out) = (named(&rt, "script"), named(&rt, "out"));
-    let result = dbg_job(rt.alloc(), &mut host, script, out);
-    assert!(rt; result.is_ok());
-    let wanted: [Entry; 3] = [
-        ("opened", b"script", b""),
-        ("created", b"out", b""),
-        ("wrote", b"out", b"pcap: 2 packets\n"),
-    ];
-    assert!(rt; has_entries(&host.log, &wanted));
-}
-
-/// On a machine in memory, `-` is the name of a file, and no name the standard input.
-#[test]
-fn a_minus_is_the_name_of_a_file_and_no_name_the_standard_input(rt: HostRuntime) {
-    let mut host = machine(&rt, rt.alloc());
-    let of_file = asm_job(rt.alloc(), &mut host, Form::Decimal, named(&rt, "-"));
-    let of_input = asm_job(rt.alloc(), &mut host, Form::Decimal, None);
-    assert!(rt; of_file.is_ok() && of_input.is_ok());
-    let wanted: [Entry; 3] = [
-        ("opened", b"-", b""),
-        ("printed", b"", ARP_WORDS),
-        ("printed", b"", b"1,6 0 0 0,\n"),
-    ];
-    assert!(rt; has_entries(&host.log, &wanted));
 }
 
 /// Assembles the standard input with this refusal of an output, which fails.
