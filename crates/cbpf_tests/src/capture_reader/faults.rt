@@ -3,7 +3,7 @@
 use crate::assertions::{Test, assert_at_both, assert_named};
 use crate::capture_reader::{ends, of_lengths, reads};
 use crate::captures::capture;
-use pcap_classic::{CaptureReader, Captured, Ending, OpenFault, ReadFault};
+use pcap_classic::{Capture, CaptureReader, Captured, Ending, OpenFault, ReadFault};
 use session_tests::fault_injection::{ERROR_KINDS, FaultyAllocator, FaultyReader};
 use session_tests::two_packets;
 use std::alloc::Allocator;
@@ -47,26 +47,30 @@ fn ends_in_two<R: Read, A: Allocator>(
     }
 }
 
-/// How often a call fails while a capture is read whole, of which one read fails by this kind of error.
-fn faults_at(rt: &impl Test, file: &[u8], call: u64, kind: ErrorKind) -> u32 {
-    let capture = capture(rt, file);
+/// How often a call fails while a capture is read whole by a reader, of which one read fails by this kind of error.
+fn faults_in<R: Read, A: Allocator>(
+    rt: &impl Test,
+    capture: &Capture,
+    reader: &mut CaptureReader<R, A>,
+    kind: ErrorKind,
+) -> u32 {
     let mut faults = 0;
+    for record in capture.records(1, u64::MAX) {
+        assert!(rt; reads_in_two(reader, &record, kind, &mut faults));
+    }
+    assert!(rt; ends_in_two(reader, capture.ending(), kind, &mut faults));
+    faults
+}
+
+/// The same from the file's header on.
+fn faults_at(rt: &impl Test, file: &[u8], call: u64, kind: ErrorKind) -> u32 {
     let mut source = FaultyReader::new(file, 13, call);
     source.set_error(kind);
     match CaptureReader::new(rt.alloc(), source) {
-        Ok(mut reader) => {
-            for record in capture.records(1, u64::MAX) {
-                assert!(rt; reads_in_two(&mut reader, &record, kind, &mut faults));
-            }
-            assert!(rt; ends_in_two(&mut reader, capture.ending(), kind, &mut faults));
-        }
-        Err(OpenFault::Read(fault)) => {
-            assert!(rt; call <= 2 && is_failed(&fault, kind));
-            faults = 1;
-        }
-        Err(_) => assert!(rt; false),
+        Ok(mut reader) => faults_in(rt, &capture(rt, file), &mut reader, kind),
+        Err(OpenFault::Read(fault)) if call <= 2 && is_failed(&fault, kind) => 1,
+        Err(_) => 2,
     }
-    faults
 }
 
 /// After a read or a growth that fails the same record is read.
@@ -101,23 +105,28 @@ fn reads_after_memory<R: Read, A: Allocator>(
     }
 }
 
-/// Asserts that a capture is read whole where one growth is refused: how often a call is out of memory.
-fn refused_at(rt: &impl Test, file: &[u8], nth: u64) -> u32 {
-    let capture = capture(rt, file);
-    let refusing = FaultyAllocator::new(rt.alloc(), nth);
+/// Asserts that a reader reads a capture whole, after calls that are out of memory: how many these are.
+fn refused_in<R: Read, A: Allocator>(
+    rt: &impl Test,
+    capture: &Capture,
+    reader: &mut CaptureReader<R, A>,
+) -> u32 {
     let mut faults = 0;
-    match CaptureReader::new(&refusing, FaultyReader::new(file, 50_000, 0)) {
-        Ok(mut reader) => {
-            for record in capture.records(1, u64::MAX) {
-                assert!(rt; reads_after_memory(&mut reader, &record, &mut faults));
-            }
-            assert!(rt; ends(&mut reader, capture.ending()));
-        }
-        Err(fault) => {
-            faults = 1;
-            assert!(rt; nth == 1 && matches!(fault, OpenFault::Read(ReadFault::Memory)));
-        }
+    for record in capture.records(1, u64::MAX) {
+        assert!(rt; reads_after_memory(reader, &record, &mut faults));
     }
+    assert!(rt; ends(reader, capture.ending()));
+    faults
+}
+
+/// The same from the file's header on, where one growth is refused.
+fn refused_at(rt: &impl Test, file: &[u8], nth: u64) -> u32 {
+    let refusing = FaultyAllocator::new(rt.alloc(), nth);
+    let faults = match CaptureReader::new(&refusing, FaultyReader::new(file, 50_000, 0)) {
+        Ok(mut reader) => refused_in(rt, &capture(rt, file), &mut reader),
+        Err(OpenFault::Read(ReadFault::Memory)) if nth == 1 => 1,
+        Err(_) => 2,
+    };
     assert_named(rt, (refusing.left() == 0) == (faults == 1), "left", nth);
     faults
 }
