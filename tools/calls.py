@@ -26,6 +26,8 @@ def main():
     words = sys.argv[2:] or [""]
     # One line is an impl that adds nothing to its trait.
     wanted = [item for item in items(CRATES / sys.argv[1]) if len(item.text) > 1 and any(word in item.name for word in words)]
+    if not wanted:
+        sys.exit(f"{sys.argv[1]} defines nothing of this name. What it passes on is printed under the crate that defines it.")
     for path, found in groupby(wanted, lambda item: item.path):
         print("\n".join([f"== {path.relative_to(TOP)}", *re.findall(r"^ghost use .* as \w+;", path.read_text(), re.M)]))
         for item in found:
