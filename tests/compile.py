@@ -23,8 +23,8 @@ SECONDS = 600
 
 # The errors are of private fields, where no other is named.
 ROWS = {
-    ("fn make_state(s: State) -> State", "s"): ["State { pc: 1, a: 0, x: 0, slots: [0; 16] }", "State { a: 1, ..s }"],
-    ("fn write_state(s: &mut State)", "*s = State::zero();"): ["s.pc = 1;", "s.a = 1;", "s.x = 1;", "s.slots[0] = 1;"],
+    ("fn make_state(s: State) -> State", "s"): ["State { core: s.core, slots: [0; 16] }", "State { slots: [1; 16], ..s }"],
+    ("fn write_state(s: &mut State)", "*s = State::zero();"): ["s.core.pc = 1;", "s.core.a = 1;", "s.core.x = 1;", "s.slots[0] = 1;"],
     ("fn make_meter() -> Meter", "Meter::new()"): ["Meter { turns: 1 }"],
     ("fn write_meter(m: &mut Meter)", "*m = Meter::new();"): ["m.turns = 1;", "m.tick();", "m.add(1);"],
     ("fn copy_meter(m: &Meter) -> Meter", "Meter::new()"): ["*m", "m.clone()"],
