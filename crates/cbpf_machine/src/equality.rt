@@ -7,13 +7,14 @@ use crate::load::Packet;
 use crate::outcome::{End, Outcome, Turn};
 use crate::packet_end::{Decided, PacketEnd};
 use crate::pause::When;
-use crate::state::State;
+use crate::state::{Core, State};
 use crate::tally::Runs;
 use crate::values::Values;
 
 /// Two values of a type are equal by `==` exactly where contracts see the same.
 pub fn equal_where_same()
     ensures state { (a b : _) → Decides (⟦<State as PartialEq>⟧.eq a b) (a ≡ b) }
+    ensures core { (a b : _) → Decides (⟦<Core as PartialEq>⟧.eq a b) (a ≡ b) }
     ensures values { (a b : _) → Decides (⟦<Values as PartialEq>⟧.eq a b) (a ≡ b) }
     ensures when { (a b : _) → Decides (⟦<When as PartialEq>⟧.eq a b) (a ≡ b) }
     ensures turn { (a b : _) → Decides (⟦<Turn as PartialEq>⟧.eq a b) (a ≡ b) }
