@@ -149,7 +149,7 @@ def own_files():
 def command_words():
     """The names of the debugger's commands, and the words that stand for no value after them."""
     files = ("cbpf_command_line/src/commands.rt", "cbpf_tool/src/command.rt")
-    return [word for file in files for word in re.findall(r'^\s*b?"(\w+)" =>', text_of(CRATES / file), re.M)]
+    return [word for file in files for word in re.findall(r'^\s*b?"([^"]+)" =>', text_of(CRATES / file), re.M)]
 
 
 def short_forms():
