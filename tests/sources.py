@@ -167,8 +167,8 @@ def line_words():
 
 
 def error_texts():
-    """How the errors begin that the program prints: a number and a word, or some words."""
+    """How the errors begin that the program prints, up to the first value: a number and words, or words."""
     printing = ("cbpf", "cbpf_code", "cbpf_reply", "cbpf_text", "cbpf_tool", "cbpf_why", "pcap_classic")
     code = "".join(text for crate in printing for text in joined_sources(crate))
     others = re.findall(r'(?:#\[error\("|"cbpf: )([a-z]+ [^"{\\]*[a-zA-Z0-9])', code)
-    return sorted({*re.findall(r'"([A-Z]\d+ \w+)', code), *others})
+    return sorted({*re.findall(r'"([A-Z]\d+ [^"]*\w)', code), *others})
