@@ -1,4 +1,4 @@
-//! Tests of captures, of `why` and of the program, and of readers, writers and allocators that fail.
+//! Tests of `why` and of the program, and of readers, writers and allocators that fail.
 #![tactic(auto)]
 
 #[cfg(test)]
@@ -7,10 +7,6 @@ mod assembling;
 mod assertions;
 #[cfg(test)]
 mod beginnings;
-#[cfg(test)]
-mod capture_reader;
-#[cfg(test)]
-mod captures;
 mod done;
 #[cfg(test)]
 mod failing_files;

@@ -1,9 +1,9 @@
 //! Sources and scripts of 700,000 bytes and more, of which each read gives one.
 
 use crate::assertions::Test;
-use crate::inputs::repeated;
 use cbpf_tool::{Form, MemoryFiles, asm, debug};
 use session_tests::fault_injection::FaultyReader;
+use session_tests::files::repeated;
 
 /// Whether the source assembles to these words.
 fn assembles_to(rt: &impl Test, source: &[u8], words: &[u8]) {

@@ -3,13 +3,13 @@
 ghost use Rattle.std.specs.Prelude.{◌<◌};
 
 use crate::assertions::{Test, assert_named};
-use crate::inputs::repeated;
 use cbpf_code::{CheckFault, Insn, check, read_words};
 use cbpf_dbg::{Counts, MarkTrail, Meter, Place, Session, Stop};
 use cbpf_text::tokens;
 use cbpf_tool::{Files, MemoryFiles, debug};
 use pcap_classic::Capture;
 use session_tests::fault_injection::FaultyReader;
+use session_tests::files::repeated;
 use session_tests::inputs::{HEADER, RECORD, STRAIGHT, program_of};
 use std::process::Abort;
 

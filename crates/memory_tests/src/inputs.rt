@@ -28,22 +28,6 @@ pub const ARP_SCRIPT_REPLIES: &[u8] = b"bpf: 4 instructions\n\
 { 0x06,  0,  0, 0xffffffff },\n\
 { 0x06,  0,  0, 0000000000 },\n";
 
-/// One piece many times, between a first and a last.
-pub fn repeated<A: Allocator>(
-    alloc: A,
-    first: &[u8],
-    piece: &[u8],
-    count: u32,
-    last: &[u8],
-) -> Result<Vec<u8, A>, AllocError> {
-    let mut text = Vec::from_slice(alloc, first)?;
-    for _ in 0..count {
-        text.extend_from_slice(piece)?;
-    }
-    text.extend_from_slice(last)?;
-    Ok(text)
-}
-
 /// Files in memory of which `k` is the capture of two packets.
 pub fn two_packets_as_k<A: Allocator + Copy>(alloc: A) -> Result<MemoryFiles<A>, AllocError> {
     let mut files = MemoryFiles::new(alloc);

@@ -1,7 +1,7 @@
 //! Calls of which each growth is refused, one after another, and which run out of memory only then.
 
 use crate::assertions::{Test, assert_named};
-use crate::inputs::{ARP, ARP_WORDS, repeated, two_packets_as_k};
+use crate::inputs::{ARP, ARP_WORDS, two_packets_as_k};
 use crate::reports::report_in;
 use cbpf_code::{WordFault, read_words};
 use cbpf_dbg::{ListTrail, MarkTrail, Meter, Session, SessionFault, Stop, When};
@@ -11,6 +11,7 @@ use cbpf_tool::{DiskFiles, Files, LoadFault, MemoryFiles};
 use cbpf_why::{FilterFault, Report, WhyFault};
 use pcap_classic::{Capture, CaptureFault, CaptureReader};
 use session_tests::fault_injection::FaultyAllocator;
+use session_tests::files::repeated;
 use session_tests::inputs::{
     HEADER, ICMP_WORDS, RECORD, STRAIGHT, TWO_PACKETS, program_of, session_of,
 };

@@ -1,12 +1,12 @@
 //! Large inputs: thousands of records, instructions, tokens and breakpoints, with memory at hand.
 
 use crate::assertions::{Test, assert_named};
-use crate::inputs::repeated;
 use cbpf_dbg::{MarkTrail, Session, SessionFault, When};
 use cbpf_text::{assemble, tokens, write_listing};
 use cbpf_tool::{Form, MemoryFiles, asm, debug};
 use pcap_classic::{Capture, Ending};
 use session_tests::fault_injection::FaultyReader;
+use session_tests::files::repeated;
 use session_tests::inputs::{HEADER, RECORD, program_of};
 use std::process::Abort;
 

@@ -1,4 +1,5 @@
-//! Tests of the machine and of sessions, and what other tests share: inputs, and readers, writers and allocators that fail.
+//! Tests of captures, of the machine and of sessions, and what other tests share: inputs, and readers, writers and
+//! allocators that fail.
 #![tactic(auto)]
 
 #[cfg(test)]
@@ -8,10 +9,15 @@ mod assertions;
 #[cfg(test)]
 mod callers;
 #[cfg(test)]
+mod capture_reader;
+#[cfg(test)]
+mod captures;
+#[cfg(test)]
 mod counts;
 #[cfg(test)]
 mod empty_records;
 pub mod fault_injection;
+pub mod files;
 pub mod inputs;
 #[cfg(test)]
 mod long_steps;

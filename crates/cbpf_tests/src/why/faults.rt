@@ -1,16 +1,21 @@
 //! Reports over readers and allocators that fail, and over captures that are cut.
 
 use crate::assertions::{Test, assert_at, assert_named};
-use crate::capture_reader::{of_lengths, with_bytes};
-use crate::captures::capture;
 use crate::why::{ARP_REPORTS, ARP_SUMMARY, Reported, report_in, report_on};
 use cbpf_reply::write_capture;
 use cbpf_why::{CaptureEnd, Report, WhyFault};
 use memory_tests::inputs::ARP;
-use pcap_classic::{CaptureReader, Ending};
+use pcap_classic::{Capture, CaptureReader, Ending};
 use session_tests::fault_injection::{ERROR_KINDS, FaultyAllocator, FaultyReader};
+use session_tests::files::{of_lengths, with_bytes};
 use session_tests::two_packets;
 use std::io::ErrorKind;
+
+/// A file that is a capture.
+fn capture(rt: &impl Test, file: &[u8]) -> Capture {
+    let bytes = Vec::from_slice(rt.alloc(), file).expect(rt, "memory");
+    Capture::new(rt.alloc(), bytes).ok().expect(rt, "a capture")
+}
 
 /// What is reported packet by packet of the packets that a beginning of the file has whole.
 fn text_after(rt: &impl Test, row: &Reported, beginning: &[u8]) -> &'static [u8] {
@@ -121,8 +126,16 @@ fn captures_that_are_cut(rt: HostRuntime) {
     each_beginning(&rt, little);
     each_beginning(&rt, big);
     // With the other fraction of a second.
-    reported_as_far_as_it_goes(&rt, &with_bytes(&rt, little, 0, [0x4d, 0x3c]), 0);
-    reported_as_far_as_it_goes(&rt, &with_bytes(&rt, big, 2, [0xc3, 0xd4]), 2);
+    reported_as_far_as_it_goes(
+        &rt,
+        &with_bytes(rt.alloc(), little, 0, [0x4d, 0x3c]).expect(&rt, "memory"),
+        0,
+    );
+    reported_as_far_as_it_goes(
+        &rt,
+        &with_bytes(rt.alloc(), big, 2, [0xc3, 0xd4]).expect(&rt, "memory"),
+        2,
+    );
 }
 
 /// Places of the captured lengths, and other lengths there: of 4 GB, of more than there is, and of less.
@@ -137,7 +150,9 @@ static LENGTHS: [(usize, [u8; 2]); 5] = [
 #[test]
 fn records_of_other_lengths(rt: HostRuntime) {
     for (place, length) in &LENGTHS {
-        let file = with_bytes(&rt, two_packets::little_endian(), *place, *length);
+        let file = with_bytes(rt.alloc(), two_packets::little_endian(), *place, *length).expect(
+            &rt, "memory",
+        );
         reported_as_far_as_it_goes(&rt, &file, *place);
     }
 }
@@ -158,7 +173,7 @@ fail at l0:\tldh [12], outside the packet: bytes 12 to 13, captured 5 of 5\n",
 
 #[test]
 fn a_record_that_gets_no_room(rt: HostRuntime) {
-    let file = of_lengths(&rt, &[5, 400_000]);
+    let file = of_lengths(rt.alloc(), &[5, 400_000]).expect(&rt, "memory");
     for (row, (report, wanted)) in WITHOUT_ROOM.iter().enumerate() {
         let refusing = FaultyAllocator::new(rt.alloc(), 2);
         let mut reader = CaptureReader::new(&refusing, file.as_slice())

@@ -4,8 +4,8 @@ use crate::assertions::{Test, assert_named};
 use crate::why::report_on;
 use cbpf_code::{write_bytes, write_with_number};
 use cbpf_why::Report;
-use memory_tests::inputs::repeated;
 use session_tests::fault_injection::FaultyReader;
+use session_tests::files::repeated;
 use session_tests::inputs::{HEADER, RECORD};
 
 /// A jump to the last instruction, over 4094 times `tax`, as `tcpdump -ddd` prints it.

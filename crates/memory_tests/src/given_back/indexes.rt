@@ -1,9 +1,9 @@
 //! The index of a capture asks for room as records are found, holds the last of it, and gives all back.
 
 use crate::assertions::assert_named;
-use crate::inputs::repeated;
 use pcap_classic::Capture;
 use session_tests::fault_injection::FaultyAllocator;
+use session_tests::files::repeated;
 use session_tests::inputs::{HEADER, RECORD};
 use std::alloc::{Allocator, Global};
 use std::process::Abort;

@@ -1,13 +1,13 @@
 //! How much room a trail, a tally, a report and breakpoints ask for, and that it is given back.
 
 use crate::assertions::{Test, assert_named};
-use crate::inputs::repeated;
 use crate::reports::report_in;
 use cbpf_dbg::{ListTrail, MarkTrail, Session, Trail, When};
 use cbpf_machine::Tally;
 use cbpf_why::Report;
 use pcap_classic::CaptureReader;
 use session_tests::fault_injection::FaultyAllocator;
+use session_tests::files::repeated;
 use session_tests::inputs::{HEADER, RECORD, STRAIGHT, program_of};
 use std::alloc::{Allocator, Global};
 use std::process::Abort;

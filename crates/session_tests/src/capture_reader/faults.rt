@@ -1,11 +1,12 @@
 //! Reads and growths that fail while a capture is read record by record.
 
 use crate::assertions::{Test, assert_at_both, assert_named};
-use crate::capture_reader::{ends, of_lengths, reads};
+use crate::capture_reader::{ends, reads};
 use crate::captures::capture;
+use crate::fault_injection::{ERROR_KINDS, FaultyAllocator, FaultyReader};
+use crate::files::of_lengths;
+use crate::two_packets;
 use pcap_classic::{Capture, CaptureReader, Captured, Ending, OpenFault, ReadFault};
-use session_tests::fault_injection::{ERROR_KINDS, FaultyAllocator, FaultyReader};
-use session_tests::two_packets;
 use std::alloc::Allocator;
 use std::io::{ErrorKind, Read};
 
@@ -134,7 +135,7 @@ fn refused_at(rt: &impl Test, file: &[u8], nth: u64) -> u32 {
 /// After a read or a growth that fails the same record is read.
 #[test]
 fn each_growth_is_refused(rt: HostRuntime) {
-    let bytes = of_lengths(&rt, &[5, 400_000, 7, 300_000, 600_000, 9]);
+    let bytes = of_lengths(rt.alloc(), &[5, 400_000, 7, 300_000, 600_000, 9]).expect(&rt, "memory");
     for nth in 1..=4u32 {
         assert_named(
             &rt,

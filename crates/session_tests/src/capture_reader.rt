@@ -4,17 +4,16 @@ mod faults;
 
 use crate::assertions::{Test, assert_at, assert_named};
 use crate::captures::{capture, generated};
-use memory_tests::inputs::repeated;
+use crate::fault_injection::{FaultyAllocator, FaultyReader};
+use crate::files::{append_record, of_lengths, repeated, with_bytes};
+use crate::inputs::{HEADER, RECORD};
+use crate::two_packets;
 use pcap_classic::{
     Capture, CaptureFault, CaptureReader, Captured, Ending, HeaderFault, OpenFault, Records,
 };
-use session_tests::fault_injection::{FaultyAllocator, FaultyReader};
-use session_tests::inputs::{HEADER, RECORD};
-use session_tests::two_packets;
 use std::alloc::Allocator;
 use std::io;
 use std::io::Read;
-use std::process::Abort;
 
 /// The bytes of the room at first.
 const ROOM: usize = 131_072;
@@ -95,15 +94,6 @@ fn is_read_as_a_whole(rt: &impl Test, bytes: &[u8], chunk: usize) -> bool {
     }
 }
 
-/// A file with two other bytes at a place, as of the magic.
-pub(crate) fn with_bytes(rt: &impl Test, file: &[u8], place: usize, other: [u8; 2]) -> Vec<u8> {
-    let mut bytes = Vec::from_slice(rt.alloc(), file).expect(rt, "memory");
-    for (there, byte) in bytes.iter_mut().skip(place).zip(other) {
-        *there = byte;
-    }
-    bytes
-}
-
 fn each_beginning(rt: &impl Test, file: &[u8], chunk: usize) {
     for length in 0..=file.len() {
         let is_wanted = is_read_as_a_whole(rt, &file[..length], chunk);
@@ -121,10 +111,14 @@ fn each_beginning_of_two_packets(rt: HostRuntime) {
 
 #[test]
 fn each_beginning_with_the_other_fraction(rt: HostRuntime) {
-    let nanos = with_bytes(&rt, two_packets::little_endian(), 0, [0x4d, 0x3c]);
+    let nanos = with_bytes(rt.alloc(), two_packets::little_endian(), 0, [0x4d, 0x3c]).expect(
+        &rt, "memory",
+    );
     assert!(rt; capture(&rt, &nanos).nanos());
     each_beginning(&rt, &nanos, 7);
-    let micros = with_bytes(&rt, two_packets::big_endian(), 2, [0xc3, 0xd4]);
+    let micros = with_bytes(rt.alloc(), two_packets::big_endian(), 2, [0xc3, 0xd4]).expect(
+        &rt, "memory",
+    );
     assert!(rt; !capture(&rt, &micros).nanos());
     each_beginning(&rt, &micros, 7);
 }
@@ -132,7 +126,13 @@ fn each_beginning_with_the_other_fraction(rt: HostRuntime) {
 #[test]
 fn each_byte_of_the_header_changed(rt: HostRuntime) {
     for place in 0..24 {
-        let bytes = with_bytes(&rt, two_packets::little_endian(), place, [0x55, 0x55]);
+        let bytes = with_bytes(
+            rt.alloc(),
+            two_packets::little_endian(),
+            place,
+            [0x55, 0x55],
+        )
+        .expect(&rt, "memory");
         assert_at(&rt, place, is_read_as_a_whole(&rt, &bytes, 5));
     }
 }
@@ -148,8 +148,8 @@ fn fault_of(rt: &impl Test, bytes: &[u8]) -> Option<HeaderFault> {
 #[test]
 fn each_fault_of_the_header(rt: HostRuntime) {
     let file = two_packets::little_endian();
-    let of_another_version = with_bytes(&rt, file, 6, [3, 0]);
-    let of_another_magic = with_bytes(&rt, file, 0, [0, 0]);
+    let of_another_version = with_bytes(rt.alloc(), file, 6, [3, 0]).expect(&rt, "memory");
+    let of_another_magic = with_bytes(rt.alloc(), file, 0, [0, 0]).expect(&rt, "memory");
     assert!(rt; fault_of(&rt, file.get(0..23).unwrap_or(b"")) == Some(HeaderFault::FileHeaderCut));
     assert!(rt; fault_of(&rt, &of_another_magic) == Some(HeaderFault::UnknownMagic(0xb2a1)));
     assert!(rt; fault_of(&rt, &of_another_version) == Some(HeaderFault::UnknownVersion));
@@ -188,33 +188,12 @@ fn a_hundred_thousand_records(rt: HostRuntime) {
     assert!(rt; is_read_as_a_whole(&rt, &bytes, 1));
 }
 
-/// A record of this captured length, with so many bytes after its header.
-fn append_long(rt: &impl Abort, bytes: &mut Vec<u8>, captured: u32, present: usize) {
-    let length = bytes.len().saturating_add(16).saturating_add(present);
-    bytes.extend_from_slice(&[7; 8]).expect(rt, "memory");
-    for _ in 0..2 {
-        bytes
-            .extend_from_slice(&captured.to_le_bytes())
-            .expect(rt, "memory");
-    }
-    bytes.resize(length, 9).expect(rt, "memory");
-}
-
-/// A capture of records of these captured lengths.
-pub(crate) fn of_lengths(rt: &impl Test, lengths: &[u32]) -> Vec<u8> {
-    let mut bytes = Vec::from_slice(rt.alloc(), HEADER).expect(rt, "memory");
-    for length in lengths {
-        append_long(rt, &mut bytes, *length, *length as usize);
-    }
-    bytes
-}
-
 /// Lengths around that of the room, with the record's header.
 static LONG: [u32; 8] = [131_056, 131_055, 131_057, 262_144, 0, 500_000, 1, 131_072];
 
 #[test]
 fn long_records(rt: HostRuntime) {
-    let bytes = of_lengths(&rt, &LONG);
+    let bytes = of_lengths(rt.alloc(), &LONG).expect(&rt, "memory");
     for chunk in [100, 4_096, 131_072, 10_000_000] {
         assert_at(&rt, chunk, is_read_as_a_whole(&rt, &bytes, chunk));
     }
@@ -222,14 +201,14 @@ fn long_records(rt: HostRuntime) {
 
 #[test]
 fn a_record_of_twenty_million_bytes(rt: HostRuntime) {
-    let bytes = of_lengths(&rt, &[20_000_000, 3]);
+    let bytes = of_lengths(rt.alloc(), &[20_000_000, 3]).expect(&rt, "memory");
     assert!(rt; is_read_as_a_whole(&rt, &bytes, 65_536));
 }
 
 /// The bytes asked for while a capture of one record of this captured length is read, of which so many bytes come.
 fn asked_for(rt: &impl Test, captured: u32, present: usize) -> u64 {
-    let mut bytes = of_lengths(rt, &[]);
-    append_long(rt, &mut bytes, captured, present);
+    let mut bytes = Vec::from_slice(rt.alloc(), HEADER).expect(rt, "memory");
+    append_record(&mut bytes, captured, present).expect(rt, "memory");
     let counting = FaultyAllocator::new(rt.alloc(), 0);
     match CaptureReader::new(&counting, FaultyReader::new(&bytes, 10_000, 0)) {
         Ok(mut reader) => assert!(rt; reads_all(&mut reader, &capture(rt, &bytes))),
