@@ -81,24 +81,29 @@ looked-up:
 	python3 tests/names.py
 	python3 tests/changes.py
 
+# Side by side, as some of them mostly wait.
+TRIALS = run sessions shell why verdicts kernel answers
+
 tried: built
-	python3 tests/run.py "$(PROGRAM)"
-	python3 tests/sessions.py "$(PROGRAM)"
-	python3 tests/shell.py "$(PROGRAM)"
-	python3 tests/why.py "$(PROGRAM)"
-	python3 tests/verdicts.py "$(PROGRAM)"
-	python3 tests/kernel.py "$(PROGRAM)"
+	@$(MAKE) --no-print-directory --output-sync --jobs=3 $(TRIALS:%=trial-%)
+	python3 tests/documents.py "$(PROGRAM)"
+
+trial-%:
+	python3 tests/$*.py "$(PROGRAM)"
+
+trial-compile:
+	python3 tests/compile.py
+
+trial-answers:
 	@for it in assembler debugger growth loading processes session why; do \
 		echo "python3 bench/$$it.py --answers"; python3 bench/$$it.py --answers > /dev/null || exit; done
-	python3 tests/documents.py "$(PROGRAM)"
 
 bench: built ## Measures the program that is built beside its peers, and writes the tables of bench/RESULTS.md and bench/growth.svg.
 	python3 bench/all.py
 
 check: looked-up ## The gate: proves all crates and their tests, tries the must-fail edits, runs all tests; from nothing 30 to 53 minutes on four processors, some 60 to 90 on two, later less, as only what changed and what stands above it is proved and tried.
 	@python3 tools/check.py
-	python3 tests/compile.py
-	@$(MAKE) --no-print-directory tried
+	@$(MAKE) --no-print-directory TRIALS="compile $(TRIALS)" tried
 
 built:
 	@test -x "$(PROGRAM)" || { echo 'There is no $(PROGRAM): `make build` proves and builds it.' >&2; exit 1; }
