@@ -72,38 +72,38 @@ static NUMBERS: [(&[u8], u32); 14] = [
     (b"0b11111111111111111111111111111111", 4294967295),
 ];
 
-/// Texts with a piece that is no token, and its line.
-static FAULTS: [(&[u8], BadPiece, u64); 30] = [
-    (b"ret ret\nret $", NoToken, 2),
-    (b"ret #0 /* x", OpenComment, 1),
-    (b"ret #0\n\n/*/ x", OpenComment, 3),
-    (b"/*", OpenComment, 1),
-    (b"/* *", OpenComment, 1),
+/// Texts with a piece that is no token, and its position.
+static FAULTS: [(&[u8], BadPiece, usize); 30] = [
+    (b"ret ret\nret $", NoToken, 12),
+    (b"ret #0 /* x", OpenComment, 7),
+    (b"ret #0\n\n/*/ x", OpenComment, 8),
+    (b"/*", OpenComment, 0),
+    (b"/* *", OpenComment, 0),
     (b"a\n/* b\nc", OpenComment, 2),
-    (b"ld #08", NoToken, 1),
-    (b"ret #0x", NoToken, 1),
-    (b"0b", NoToken, 1),
-    (b"0b2", NoToken, 1),
-    (b"0X10", NoToken, 1),
-    (b"0B1", NoToken, 1),
-    (b"1_0", NoToken, 1),
-    (b"12ab", NoToken, 1),
-    (b"0xg", NoToken, 1),
-    (b"99999999999999999999a", NoToken, 1),
-    (b"ld #4294967296", LargeNumber, 1),
-    (b"0x100000000", LargeNumber, 1),
-    (b"0b100000000000000000000000000000000", LargeNumber, 1),
-    (b"040000000000", LargeNumber, 1),
-    (b"99999999999999999999999999999999", LargeNumber, 1),
-    (b"ld #-4294967296", LargeNumber, 1),
-    (b"a / b", NoToken, 1),
+    (b"ld #08", NoToken, 4),
+    (b"ret #0x", NoToken, 5),
+    (b"0b", NoToken, 0),
+    (b"0b2", NoToken, 0),
+    (b"0X10", NoToken, 0),
+    (b"0B1", NoToken, 0),
+    (b"1_0", NoToken, 0),
+    (b"12ab", NoToken, 0),
+    (b"0xg", NoToken, 0),
+    (b"99999999999999999999a", NoToken, 0),
+    (b"ld #4294967296", LargeNumber, 4),
+    (b"0x100000000", LargeNumber, 0),
+    (b"0b100000000000000000000000000000000", LargeNumber, 0),
+    (b"040000000000", LargeNumber, 0),
+    (b"99999999999999999999999999999999", LargeNumber, 0),
+    (b"ld #-4294967296", LargeNumber, 5),
+    (b"a / b", NoToken, 2),
     (b"*/", NoToken, 1),
-    (b"/", NoToken, 1),
+    (b"/", NoToken, 0),
     (b"a\n\x0bb", NoToken, 2),
     (b"a\n\n\x0cb", NoToken, 3),
-    (b"\x00", NoToken, 1),
-    (b"/* \n\n */ \xff", NoToken, 3),
-    (b"a\r\r$\n", NoToken, 1),
+    (b"\x00", NoToken, 0),
+    (b"/* \n\n */ \xff", NoToken, 9),
+    (b"a\r\r$\n", NoToken, 3),
 ];
 
 fn are_kinds(found: &[Token], wanted: &[Kind]) -> bool {
@@ -135,8 +135,8 @@ fn is_number(rt: &impl Test, text: &[u8], value: u32) -> bool {
     are_placed(&found, &[(Kind::Number(value), 0, text.len())])
 }
 
-fn is_bad(alloc: Global, text: &[u8], bad: BadPiece, line: u64) -> bool {
-    tokens(alloc, text).err() == Some(LexFault::At(bad, line))
+fn is_bad(alloc: Global, text: &[u8], bad: BadPiece, at: usize) -> bool {
+    tokens(alloc, text).err() == Some(LexFault::At(bad, at))
 }
 
 #[test]
@@ -155,8 +155,8 @@ fn each_number(rt: HostRuntime) {
 
 #[test]
 fn each_fault(rt: HostRuntime) {
-    for (row, (text, bad, line)) in FAULTS.iter().enumerate() {
-        assert_at(&rt, row, is_bad(rt.alloc(), text, *bad, *line));
+    for (row, (text, bad, at)) in FAULTS.iter().enumerate() {
+        assert_at(&rt, row, is_bad(rt.alloc(), text, *bad, *at));
     }
 }
 

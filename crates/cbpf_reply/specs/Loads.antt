@@ -24,8 +24,8 @@ packet_count_text count how = with_number (codes "pcap: ") count (codes " packet
 abbrev pub capture_text : Savefile → List ℕ
 capture_text c = packet_count_text (length c.records) c.ending
 
--- The same line where the capture is cut, and nothing where it isn't. A summary of all packets by `cbpf why` ends with it.
--- After another report that read the capture to its end, it goes to standard error.
+-- The same line where the capture is cut, and nothing where it isn't. A summary by `cbpf why` that read the capture to its
+-- end ends with it. After another report that did, it goes to standard error.
 abbrev pub cut_text : ℕ → Ending → List ℕ
 cut_text count Whole = []
 cut_text count (CutHeader offset) = packet_count_text count (CutHeader offset)

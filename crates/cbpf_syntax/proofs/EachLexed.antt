@@ -9,21 +9,21 @@ use Rattle.cbpf_syntax.specs.declared.token.BadPiece.{BadPiece}
 use Rattle.cbpf_syntax.specs.declared.token.Token.{Token}
 use Rattle.cbpf_syntax.specs.Pieces.{IsPieceAt, is_line_blank}
 use Rattle.cbpf_syntax.specs.Leads.{lead_of}
-use Rattle.cbpf_syntax.specs.Tokens.{LexesTo, Lexes, IsFirstBad, token_of, line_of, is_good}
+use Rattle.cbpf_syntax.specs.Tokens.{LexesTo, Lexes, IsFirstBad, token_of, is_good}
 use Rattle.cbpf_syntax.specs.CutLaws.{EachLexed}
 use Rattle.cbpf_syntax.proofs.Runs.{led_piece, led_next}
 use Rattle.cbpf_syntax.proofs.Cuts.{piece_at, piece_within, piece_some, LexesTo-more}
 
 -- what a text has
 abbrev Answer : List ℕ → Type 0
-Answer text = ((ts : List Token) × Lexes text ts) ⊎ ((f : BadPiece) × (l : ℕ) × IsFirstBad text f l)
+Answer text = ((ts : List Token) × Lexes text ts) ⊎ ((f : BadPiece) × (at : ℕ) × IsFirstBad text f at)
 
 -- a piece is bad, or it isn't
 one_of : (kind : PieceKind) → ((f : BadPiece) × (kind ≡ Bad f)) ⊎ (is_good kind ≡ true)
 one_of kind = search (rules)
 
 bad_here : (text : List ℕ) (at : ℕ) (ts : List Token) (piece : Piece) (f : BadPiece) → LexesTo text at ts
-    → IsPieceAt text at piece → piece.kind ≡ Bad f → IsFirstBad text f (line_of text at)
+    → IsPieceAt text at piece → piece.kind ≡ Bad f → IsFirstBad text f at
 bad_here text at ts piece f h1 h2 h3 = search (rules)
 
 whole : (text : List ℕ) (at : ℕ) (ts : List Token) → at ≤ length text → length text ≤ at → LexesTo text at ts
@@ -42,7 +42,7 @@ answer_from text (suc left) at ts l m lexed = elim (cases_lt at (length text)) [
       let next = led_piece lead (get_or text at 0) (drop (at + 1) text) in
       let here : IsPieceAt text at next = piece_at text at next more (led_next _ _ _ lead refl) in
       elim (one_of next.kind) [
-        | inl bad ↦ inr (bad.0, line_of text at, bad_here text at ts next bad.0 lexed here bad.1)
+        | inl bad ↦ inr (bad.0, at, bad_here text at ts next bad.0 lexed here bad.1)
         | inr good ↦ answer_from text left (at + next.size) (ts ++ token_of next.kind at (at + next.size))
             (omega (arith, l, piece_some text at next here)) (piece_within text at next more here)
             (LexesTo-more text at ts next lexed here good)

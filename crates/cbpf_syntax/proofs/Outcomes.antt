@@ -9,7 +9,7 @@ use Rattle.cbpf_syntax.specs.declared.piece.Piece.{Piece}
 use Rattle.cbpf_syntax.specs.declared.token.BadPiece.{BadPiece}
 use Rattle.cbpf_syntax.specs.Pieces.{IsPieceAt, IsCut}
 use Rattle.cbpf_syntax.specs.declared.token.Token.{Token}
-use Rattle.cbpf_syntax.specs.Tokens.{LexesTo, Lexes, tokens_of, token_of, line_of, is_good}
+use Rattle.cbpf_syntax.specs.Tokens.{LexesTo, Lexes, tokens_of, token_of, is_good}
 use Rattle.cbpf_syntax.specs.CutLaws.{OneCut, OneList, OneFault, NeverLexedAndBad}
 use Rattle.cbpf_syntax.proofs.Cuts.{one_next, past_end}
 use Rattle.cbpf_syntax.proofs.Cuts as cuts
@@ -57,14 +57,14 @@ bad-same : (f g : BadPiece) → ◌≡◌ {A = PieceKind} (Bad f) (Bad g) → f 
 bad-same f g e = cc
 
 pub one_fault : OneFault
-one_fault text f g l m a b =
-    let both = same_bad text 0 a.before.pieces b.before.pieces a.at b.at (record { kind = Bad f; size = a.size })
+one_fault text f g m n a b =
+    let both = same_bad text 0 a.before.pieces b.before.pieces m n (record { kind = Bad f; size = a.size })
     (record { kind = Bad g; size = b.size }) a.before.cut b.before.cut a.before.good b.before.good a.bad
     b.bad refl refl in
-    (bad-same f g (ap (λ (p : Piece). p.kind) both.1), a.line ∙ (ap (λ n. line_of text n) both.0 ∙ sym b.line))
+    (bad-same f g (ap (λ (p : Piece). p.kind) both.1), both.0)
 
 pub never_both : NeverLexedAndBad
-never_both text ts f l a b = no_bad text 0 a.pieces b.before.pieces b.at (record { kind = Bad f; size = b.size })
+never_both text ts f at a b = no_bad text 0 a.pieces b.before.pieces at (record { kind = Bad f; size = b.size })
     a.cut b.before.cut a.good b.bad refl
 
 -- What is read of a text is the front of the whole.

@@ -17,13 +17,13 @@ OneList = (text : List ℕ) (ts us : List Token) → Lexes text ts → Lexes tex
 
 -- a text has one first bad piece
 abbrev pub OneFault : Type 0
-OneFault = (text : List ℕ) (f g : BadPiece) (l m : ℕ) → IsFirstBad text f l → IsFirstBad text g m → (f ≡ g) × (l ≡ m)
+OneFault = (text : List ℕ) (f g : BadPiece) (m n : ℕ) → IsFirstBad text f m → IsFirstBad text g n → (f ≡ g) × (m ≡ n)
 
 -- no text has both tokens and a first bad piece
 abbrev pub NeverLexedAndBad : Type 0
-NeverLexedAndBad = (text : List ℕ) (ts : List Token) (f : BadPiece) (l : ℕ) → Lexes text ts → IsFirstBad text f l → ⊥
+NeverLexedAndBad = (text : List ℕ) (ts : List Token) (f : BadPiece) (at : ℕ) → Lexes text ts → IsFirstBad text f at → ⊥
 
 -- each text has tokens, or a first bad piece
 abbrev pub EachLexed : Type 0
 EachLexed = (text : List ℕ)
-    → ((ts : List Token) × Lexes text ts) ⊎ ((f : BadPiece) × (l : ℕ) × IsFirstBad text f l)
+    → ((ts : List Token) × Lexes text ts) ⊎ ((f : BadPiece) × (at : ℕ) × IsFirstBad text f at)

@@ -49,16 +49,14 @@ IsSpanOf text token = (token.start ≤ token.end) × (token.end ≤ length text)
 abbrev pub line_of : List ℕ → ℕ → ℕ
 line_of text at = count_by (λ b. b == 10) (take at text) + 1
 
--- the first bad piece
-pub record IsFirstBad (text : List ℕ) (fault : BadPiece) (line_no : ℕ) : Type 0 where
-  pub at : ℕ
+-- the first bad piece, and its position
+pub record IsFirstBad (text : List ℕ) (fault : BadPiece) (at : ℕ) : Type 0 where
   pub tokens : List Token
   pub before : LexesTo text at tokens
   pub size : ℕ
   pub bad : IsPieceAt text at (record { kind = Bad fault; size = size })
-  pub line : line_no ≡ line_of text at
 
 -- the fault that the text has; out of memory says nothing
 abbrev pub IsLexFault : List ℕ → LexFault → Type 0
 IsLexFault text Memory = Unit {0}
-IsLexFault text (At fault line) = IsFirstBad text fault line
+IsLexFault text (At fault at) = IsFirstBad text fault at

@@ -63,7 +63,7 @@ impl<'a> Lexer<'a> {
     ///
     /// # Errors
     ///
-    /// `At`: a bad piece comes before the next token, on this line. The lexer then stays where
+    /// `At`: a bad piece comes before the next token, at this position. The lexer then stays where
     /// it was.
     #[inline(always)]
     pub fn next_token(&mut self) -> Result<Option<Token>, LexFault>
@@ -81,7 +81,7 @@ impl<'a> Lexer<'a> {
             let piece = next_piece(&text[..at], text[at], &text[at + 1..]);
             let end = at + piece.size;
             if let Some(fault) = bad_piece_of(piece.kind) {
-                return Err(LexFault::At(fault, line_of(text, at)));
+                return Err(LexFault::At(fault, at));
             }
             if let PieceKind::TokenOf(kind) = piece.kind {
                 self.at = end;
@@ -107,7 +107,7 @@ impl<'a> Lexer<'a> {
 ///
 /// # Errors
 ///
-/// `At` reports the first piece that is none of these, and its line; `Memory` that the
+/// `At` reports the first piece that is none of these, and its position; `Memory` that the
 /// allocator refused, whatever the text is.
 pub fn tokens<A: Allocator>(alloc: A, text: &[u8]) -> Result<Vec<Token, A>, LexFault>
     ensures lexed { IfOk result (λ v. Lexes text.now v.items) }

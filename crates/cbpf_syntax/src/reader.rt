@@ -242,7 +242,7 @@ impl<'a, A: Allocator> Reader<'a, A> {
     ///
     /// # Errors
     ///
-    /// `At`: the first bad piece of the text, and its line. `Memory`: the allocator refused,
+    /// `At`: the first bad piece of the text, and its position. `Memory`: the allocator refused,
     /// whatever the text is. The reader stays where it is, and another call tries again.
     pub fn step(&mut self) -> Result<Option<Step>, LexFault>
         ensures text { OnOk result (self.new.text ≡ self.old.text) }

@@ -37,8 +37,8 @@ pub enum BadPiece {
 pub enum LexFault {
     /// The allocator refused.
     Memory,
-    /// The first bad piece, and the line of its first byte, counted from 1.
-    At(BadPiece, u64),
+    /// The first bad piece, and the position of its first byte, counted from 0.
+    At(BadPiece, usize),
 }
 
 impl<T: Drop> From<AllocFailed<T>> for LexFault {

@@ -6,7 +6,7 @@ use cbpf_code::{WriteFault, write_bytes, write_c, write_words};
 use cbpf_dbg::{MarkTrail, Meter, RunReply, Session};
 use cbpf_text::write_listing;
 use cbpf_tool::{Form, ToolFault, asm, debug};
-use cbpf_why::{Report, WhyFault};
+use cbpf_why::{ALL_PACKETS, Report, WhyFault};
 use memory_tests::inputs::{
     ARP, ARP_C, ARP_SCRIPT, ARP_SCRIPT_REPLIES, ARP_WORDS, two_packets_as_k,
 };
@@ -183,7 +183,7 @@ fn write_report(
     report: Report,
     w: &mut FaultyWriter<2048>,
 ) -> Result<(), ToolFault> {
-    match report_on(rt, (ARP, None, report), &[], TWO_PACKETS, w) {
+    match report_on(rt, (ARP, None, report), &[ALL_PACKETS], TWO_PACKETS, w) {
         Ok(_) => Ok(()),
         Err(WhyFault::Write) => Err(ToolFault::Write),
         Err(_) => Err(ToolFault::Read),

@@ -87,9 +87,9 @@ each_tokens ts = elim (each_parsed ts) [
 
 pub each_answered : EachAnswered
 each_answered text = elim (each_lexed text) [
-  | inr b ↦ inr (bad_piece_kind b.0, b.1, of_piece b.0 b.1 b.2)
+  | inr b ↦ inr (bad_piece_kind b.0, line_of text b.1, (b.1, of_piece b.0 b.1 b.2, refl))
   | inl l ↦ elim (each_tokens (lexemes_of text l.0)) [
     | inl a ↦ inl (a.0, record { tokens = l.0; lexed = l.1; assembled = a.1 })
-    | inr f ↦ inr (f.0, line_of text f.1, of_tokens l.0 f.0 f.1 l.1 f.2)
+    | inr f ↦ inr (f.0, line_of text f.1, (f.1, of_tokens l.0 f.0 f.1 l.1 f.2, refl))
   ]
 ]

@@ -2,20 +2,19 @@
 use Rattle.std.proofs.Common.{rules, ◌≡◌, refl, sym, subst, ℕ, List, ◌∙◌, ap, suc, ◌+◌, ◌<◌, ◌≤◌, Bool, true, false, []}
 use Rattle.std.proofs.Common.{◌∷◌, ◌++◌, length, map, take, drop, get_or, Option, Some, None, arith, append_assoc}
 use Rattle.std.proofs.Common.{append-nil, length-append}
-use Rattle.cbpf_syntax.specs.Tokens.{line_of}
 use Rattle.cbpf_syntax.specs.Refusals.{ParseFault, IsAccepted, ItemsStuckAt, IsFirstRefusalAtPosition}
 use Rattle.cbpf_syntax.specs.Lexemes.{Lexeme, AreLexemes}
 use Rattle.cbpf_syntax.specs.Items.{Item, AreLabels, Items}
 use Rattle.cbpf_code.specs.declared.insn.Insn.{Insn}
-use Rattle.cbpf_text.specs.declared.fault.AsmFault.{AsmFault}
+use Rattle.cbpf_text.specs.declared.placed.PlacedFault.{PlacedFault}
 use Rattle.cbpf_text.specs.declared.fault.AsmKind.{AsmKind}
 use Rattle.cbpf_text.specs.Labels.{labels_from}
 use Rattle.cbpf_text.specs.Assembled.{insns_from, TokensAssemble}
-use Rattle.cbpf_text.specs.Refusals.{items_fault, ReportedIn, IsTokensFault, IsRefused, IsLexRefused}
-use Rattle.cbpf_text.specs.Refusals.{grammar_kind}
+use Rattle.cbpf_text.specs.Refusals.{items_fault, AnswersFault, IsTokensFault, IsRefused, IsPlacedFault, IsLexRefused, IsPlacedPiece}
+use Rattle.cbpf_text.specs.Refusals.{grammar_kind, on_line}
 use Rattle.cbpf_text.specs.Refusals.IsTokensFault.{of_grammar, of_items}
 use Rattle.cbpf_text.specs.Refusals.IsTextFault.{of_piece, of_tokens}
-use Rattle.cbpf_text.specs.declared.fault.AsmFault.TheVariants as faults
+use Rattle.cbpf_text.specs.declared.placed.PlacedFault.TheVariants as placed
 use Rattle.std.proofs.lemmas.List.{length-map, length-take-le, drop_at, nil_from_length}
 use Rattle.cbpf_syntax.specs.Views.{lexeme_of, row_of}
 use Rattle.cbpf_syntax.specs.Ahead.{Ahead, HasTaken, IsFirstLarge, MayRemain}
@@ -47,29 +46,38 @@ tokens_assembled ts is insns p a sound e = record {
   encoded = e;
 }
 
-pub lex_refused : (text : List ℕ) (fault : AsmFault) → IsLexRefused text fault → IsRefused text fault
-lex_refused text faults.Memory h = tt
-lex_refused text (faults.At kind line) h = rw h.1 (of_piece h.0 line h.2)
+pub lex_refused : (text : List ℕ) (fault : PlacedFault) → IsPlacedPiece text fault → IsPlacedFault text fault
+lex_refused text placed.Memory h = tt
+lex_refused text (placed.At kind at) h = rw h.1 (of_piece h.0 at h.2)
+
+-- a refusal with its line
+pub refused_on_line : (text : List ℕ) (fault : PlacedFault) → IsPlacedFault text fault → IsRefused text (on_line text fault)
+refused_on_line text placed.Memory h = tt
+refused_on_line text (placed.At kind at) h = (at, h, refl)
+
+pub lexed_on_line : (text : List ℕ) (fault : PlacedFault) → IsPlacedPiece text fault
+    → IsLexRefused text (on_line text fault)
+lexed_on_line text placed.Memory h = tt
+lexed_on_line text (placed.At kind at) h = (h.0, at, h.1, h.2, refl)
 
 -- The refusals of a text whose items are read one by one, and what is kept of them.
 
 -- the refusal of the text's tokens is the text's
-pub tokens_refused : (text : List ℕ) (ts : List Lexeme) (kind : AsmKind) (at : ℕ) (fault : AsmFault)
-    → AreLexemes text ts → IsTokensFault ts kind at → fault ≡ faults.At kind (line_of text at) → IsRefused text fault
+pub tokens_refused : (text : List ℕ) (ts : List Lexeme) (kind : AsmKind) (at : ℕ) (fault : PlacedFault)
+    → AreLexemes text ts → IsTokensFault ts kind at → fault ≡ placed.At kind at → IsPlacedFault text fault
 tokens_refused text ts kind at fault t h e =
     rw e (of_tokens t.tokens kind at t.lexed (subst (λ us. IsTokensFault us kind at) t.are h))
 
-pub items_refused : (text : List ℕ) (ts : List Lexeme) (is : List Item) (fault : AsmFault)
-    → AreLexemes text ts → Items ts is → IsAccepted ts → ReportedIn text (items_fault is) fault → IsRefused text fault
-items_refused text ts is faults.Memory t p a h = tt
-items_refused text ts is (faults.At kind line) t p a h =
-    tokens_refused text ts kind h.0 (faults.At kind line) t (of_items is kind h.0 p a h.1) (rw h.2 refl)
+pub items_refused : (text : List ℕ) (ts : List Lexeme) (is : List Item) (fault : PlacedFault)
+    → AreLexemes text ts → Items ts is → IsAccepted ts → AnswersFault (items_fault is) fault → IsPlacedFault text fault
+items_refused text ts is placed.Memory t p a h = tt
+items_refused text ts is (placed.At kind at) t p a h =
+    tokens_refused text ts kind at (placed.At kind at) t (of_items is kind at p a h) refl
 
 -- the first refusal of the grammar is the text's
-pub grammar_refused : (text : List ℕ) (ts : List Lexeme) (refusal : ParseFault) (at : ℕ) (fault : AsmFault)
-    → AreLexemes text ts → IsFirstRefusalAtPosition ts refusal at
-    → fault ≡ faults.At (grammar_kind refusal) (line_of text at)
-    → IsRefused text fault
+pub grammar_refused : (text : List ℕ) (ts : List Lexeme) (refusal : ParseFault) (at : ℕ) (fault : PlacedFault)
+    → AreLexemes text ts → IsFirstRefusalAtPosition ts refusal at → fault ≡ placed.At (grammar_kind refusal) at
+    → IsPlacedFault text fault
 grammar_refused text ts refusal at fault t first e =
     tokens_refused text ts (grammar_kind refusal) at fault t (of_grammar refusal at first) e
 

@@ -10,13 +10,18 @@ use Rattle.cbpf_text.specs.declared.fault.AsmKind.{AsmKind}
 use Rattle.cbpf_text.specs.declared.fault.AsmFault.{AsmFault}
 use Rattle.cbpf_text.specs.declared.fault.AsmFault.TheVariants.{Memory, At}
 use Rattle.cbpf_text.specs.Assembled.{Assembles}
-use Rattle.cbpf_text.specs.Refusals.{IsRefused}
+use Rattle.cbpf_text.specs.Refusals.{IsRefused, IsTextFault}
 
 -- a text assembles to one list of instructions at most
 abbrev pub OneAssembly : Type 0
 OneAssembly = (text : List ℕ) (xs ys : List Insn) → Assembles text xs → Assembles text ys → xs ≡ ys
 
--- out of memory aside, a text is refused for one reason, at one line
+-- a text is refused for one reason, at one position
+abbrev pub OnePlace : Type 0
+OnePlace = (text : List ℕ) (kind other : AsmKind) (at other_at : ℕ) → IsTextFault text kind at
+    → IsTextFault text other other_at → (kind ≡ other) × (at ≡ other_at)
+
+-- so it is refused at one line
 abbrev pub OneTextRefusal : Type 0
 OneTextRefusal = (text : List ℕ) (kind other : AsmKind) (line other_line : ℕ) → IsRefused text (At kind line)
     → IsRefused text (At other other_line) → (kind ≡ other) × (line ≡ other_line)

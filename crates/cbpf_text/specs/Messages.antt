@@ -3,6 +3,8 @@ use Rattle.std.specs.Prelude.{ℕ, List, ◌++◌, codes, decimal}
 use Rattle.cbpf_text.specs.declared.fault.AsmFault.{AsmFault, TheVariants.Memory, TheVariants.At}
 use Rattle.cbpf_text.specs.declared.fault.AsmKind.{AsmKind}
 use Rattle.cbpf_text.specs.declared.fault.AsmKind.TheVariants as kind
+use Rattle.cbpf_text.specs.declared.placed.PlacedFault.{PlacedFault}
+use Rattle.cbpf_text.specs.declared.placed.PlacedFault.TheVariants as placed
 
 -- what is wrong, after its number
 abbrev pub kind_text : AsmKind → List ℕ
@@ -22,3 +24,8 @@ kind_text kind.NoInstruction = codes "A11 no instruction"
 abbrev pub fault_text : AsmFault → List ℕ
 fault_text Memory = codes "out of memory"
 fault_text (At kind line) = codes "line " ++ (decimal line ++ (codes ": " ++ kind_text kind))
+
+-- the same, after the position
+abbrev pub placed_text : PlacedFault → List ℕ
+placed_text placed.Memory = codes "out of memory"
+placed_text (placed.At kind at) = codes "byte " ++ (decimal at ++ (codes ": " ++ kind_text kind))

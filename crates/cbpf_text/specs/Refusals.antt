@@ -1,4 +1,4 @@
--- Why a source text is refused, and the line that is reported: this project's own rules, as the kernel's
+-- Why a source text is refused, and the position and the line: this project's own rules, as the kernel's
 -- Documentation/networking/filter has no faults.
 use Rattle.std.specs.Prelude.{◌≡◌, ℕ, ◌+◌, Bool, true, false, ◌&&◌, nat_le, nat_lt, List, [], ◌∷◌, ◌++◌, map}
 use Rattle.std.specs.Prelude.{slice_get, Option, Some, None, option_map, if◌then◌else◌}
@@ -18,6 +18,8 @@ use Rattle.cbpf_text.specs.declared.fault.AsmKind.{AsmKind}
 use Rattle.cbpf_text.specs.declared.fault.AsmKind.TheVariants as kinds
 use Rattle.cbpf_text.specs.declared.fault.AsmFault.{AsmFault}
 use Rattle.cbpf_text.specs.declared.fault.AsmFault.TheVariants as faults
+use Rattle.cbpf_text.specs.declared.placed.PlacedFault.{PlacedFault}
+use Rattle.cbpf_text.specs.declared.placed.PlacedFault.TheVariants as placed
 use Rattle.cbpf_text.specs.Labels.{name_of, labels_from, item_named, first_repeat}
 use Rattle.cbpf_text.specs.Operands.{targets_in}
 
@@ -97,23 +99,44 @@ pub data IsTokensFault (ts : List Lexeme) : AsmKind → ℕ → Type 0 where
   of_items : (items : List Item) (kind : AsmKind) (at : ℕ) → Items ts items → IsAccepted ts
       → items_fault items ≡ Some (kind, at) → IsTokensFault ts kind at
 
--- why a text is refused, and the line: its first bad piece, and where there is none the fault of its tokens
+-- why a text is refused, and the position: its first bad piece, and where there is none the fault of its tokens
 pub data IsTextFault (text : List ℕ) : AsmKind → ℕ → Type 0 where
-  of_piece : (bad : BadPiece) (line : ℕ) → IsFirstBad text bad line → IsTextFault text (bad_piece_kind bad) line
+  of_piece : (bad : BadPiece) (at : ℕ) → IsFirstBad text bad at → IsTextFault text (bad_piece_kind bad) at
   of_tokens : (tokens : List Token) (kind : AsmKind) (at : ℕ) → Lexes text tokens
-      → IsTokensFault (lexemes_of text tokens) kind at → IsTextFault text kind (line_of text at)
+      → IsTokensFault (lexemes_of text tokens) kind at → IsTextFault text kind at
 
--- the fault is that of the text; out of memory says nothing
+-- the fault is that of the text, with its position; out of memory says nothing
+abbrev pub IsPlacedFault : List ℕ → PlacedFault → Type 0
+IsPlacedFault text placed.Memory = Unit {0}
+IsPlacedFault text (placed.At kind at) = IsTextFault text kind at
+
+-- the same with the line of its position
 abbrev pub IsRefused : List ℕ → AsmFault → Type 0
 IsRefused text faults.Memory = Unit {0}
-IsRefused text (faults.At kind line) = IsTextFault text kind line
+IsRefused text (faults.At kind line) = (at : ℕ) × IsTextFault text kind at × (line ≡ line_of text at)
 
--- why a text can't be cut into tokens; out of memory says nothing
+-- the fault is that of the text, on the line of this position
+abbrev pub IsRefusedFrom : List ℕ → AsmFault → ℕ → Type 0
+IsRefusedFrom text faults.Memory at = ⊥
+IsRefusedFrom text (faults.At kind line) at = IsTextFault text kind at × (line ≡ line_of text at)
+
+-- a fault with its position, as it is reported with its line
+abbrev pub on_line : List ℕ → PlacedFault → AsmFault
+on_line text placed.Memory = faults.Memory
+on_line text (placed.At kind at) = faults.At kind (line_of text at)
+
+-- why a text can't be cut into tokens, with the position; out of memory says nothing
+abbrev pub IsPlacedPiece : List ℕ → PlacedFault → Type 0
+IsPlacedPiece text placed.Memory = Unit {0}
+IsPlacedPiece text (placed.At kind at) = (bad : BadPiece) × (kind ≡ bad_piece_kind bad) × IsFirstBad text bad at
+
+-- the same with the line
 abbrev pub IsLexRefused : List ℕ → AsmFault → Type 0
 IsLexRefused text faults.Memory = Unit {0}
-IsLexRefused text (faults.At kind line) = (bad : BadPiece) × (kind ≡ bad_piece_kind bad) × IsFirstBad text bad line
+IsLexRefused text (faults.At kind line) =
+    (bad : BadPiece) × (at : ℕ) × (kind ≡ bad_piece_kind bad) × IsFirstBad text bad at × (line ≡ line_of text at)
 
--- the fault is reported with its line; out of memory says nothing
-abbrev pub ReportedIn : List ℕ → Option (AsmKind × ℕ) → AsmFault → Type 0
-ReportedIn text fault faults.Memory = Unit {0}
-ReportedIn text fault (faults.At kind line) = (at : ℕ) × (fault ≡ Some (kind, at)) × (line ≡ line_of text at)
+-- the fault is the one that there is; out of memory says nothing
+abbrev pub AnswersFault : Option (AsmKind × ℕ) → PlacedFault → Type 0
+AnswersFault fault placed.Memory = Unit {0}
+AnswersFault fault (placed.At kind at) = fault ≡ Some (kind, at)

@@ -7,22 +7,21 @@ ghost use Rattle.cbpf_syntax.specs.Items as items;
 ghost use Rattle.cbpf_text.specs.Assembled.{Assembles, insns_from};
 ghost use Rattle.cbpf_text.specs.Labels.{labels_from};
 ghost use Rattle.cbpf_text.specs.Drafts.{IsDraft, same_name};
-ghost use Rattle.cbpf_text.specs.Refusals.{ReportedIn, items_fault, IsRefused};
+ghost use Rattle.cbpf_text.specs.Refusals.{AnswersFault, items_fault, IsRefused, IsPlacedFault};
 ghost use Rattle.cbpf_syntax.specs.Items.{HasForm};
 
 use crate::draft::{Draft, read};
 use crate::encode::encode_all;
 use crate::fault::{AsmFault, AsmKind};
-use crate::fault_at::fault_on_line;
+use crate::placed::PlacedFault;
 use cbpf_code::Insn;
 use std::alloc::Allocator;
 
 /// The instructions of the draft of a text.
 fn encode_draft<A: Allocator + Copy>(
     alloc: A,
-    text: &[u8],
     draft: &Draft<'_, A>,
-) -> Result<Vec<Insn, A>, AsmFault>
+) -> Result<Vec<Insn, A>, PlacedFault>
     requires { length draft.now.statements.items ≤ MAX_INSTRUCTIONS }
     ensures encoded { (is : List items.Item) →
         IsDraft draft.now.excess draft.now.statements.items draft.now.labels.repeat
@@ -32,18 +31,34 @@ fn encode_draft<A: Allocator + Copy>(
     ensures refused { (is : List items.Item) →
         IsDraft draft.now.excess draft.now.statements.items draft.now.labels.repeat
         (λ k. get same_name draft.now.labels.table k) is [] →
-        All HasForm is → IfErr result (ReportedIn text.now (items_fault is)) }
+        All HasForm is → IfErr result (AnswersFault (items_fault is)) }
 {
     if let Some(at) = draft.excess {
-        return Err(fault_on_line(text, (AsmKind::TooMany, at)));
+        return Err(PlacedFault::At(AsmKind::TooMany, at));
     }
     if draft.statements.is_empty() {
-        return Err(fault_on_line(text, (AsmKind::NoInstruction, 0)));
+        return Err(PlacedFault::At(AsmKind::NoInstruction, 0));
     }
     if let Some(at) = draft.labels.repeat {
-        return Err(fault_on_line(text, (AsmKind::LabelSetTwice, at)));
+        return Err(PlacedFault::At(AsmKind::LabelSetTwice, at));
     }
-    encode_all(alloc, text, &draft.labels.table, &draft.statements)
+    encode_all(alloc, &draft.labels.table, &draft.statements)
+}
+
+/// The instructions of a source text, as of [`assemble`].
+///
+/// # Errors
+///
+/// As of [`assemble`], with the position in place of the line.
+pub fn assemble_placed<A: Allocator + Copy>(
+    alloc: A,
+    text: &[u8],
+) -> Result<Vec<Insn, A>, PlacedFault>
+    ensures assembled { IfOk result (λ v. Assembles text.now v.items) }
+    ensures refused { IfErr result (IsPlacedFault text.now) }
+{
+    let draft = read(alloc, text)?;
+    encode_draft(alloc, &draft)
 }
 
 /// The instructions of a source text, in order. They are not checked as a program.
@@ -64,6 +79,8 @@ pub fn assemble<A: Allocator + Copy>(alloc: A, text: &[u8]) -> Result<Vec<Insn, 
     ensures assembled { IfOk result (λ v. Assembles text.now v.items) }
     ensures refused { IfErr result (IsRefused text.now) }
 {
-    let draft = read(alloc, text)?;
-    encode_draft(alloc, text, &draft)
+    match assemble_placed(alloc, text) {
+        Ok(list) => Ok(list),
+        Err(fault) => Err(fault.on_line(text)),
+    }
 }

@@ -1,6 +1,6 @@
 //! The items of a source text, as far as their instructions depend on them.
 
-ghost use Rattle.std.specs.Prelude.{◌≡◌, ◌≤◌, ◌<◌, ◌+◌, ◌++◌, ◌∷◌, [], true, ℕ, List, length, map, None, IfOk, IfErr};
+ghost use Rattle.std.specs.Prelude.{◌≡◌, ◌≤◌, ◌<◌, ◌+◌, ◌++◌, ◌∷◌, [], true, List, length, map, None, IfOk, IfErr};
 ghost use Rattle.std.specs.Prelude.{OnOk};
 ghost use Rattle.indexmap.specs.IndexMap.{get};
 ghost use Rattle.cbpf_syntax.specs.Lexemes as lexemes;
@@ -11,14 +11,14 @@ ghost use Rattle.cbpf_syntax.specs.Refusals.{IsAccepted, ItemsStuckAt};
 ghost use Rattle.cbpf_syntax.specs.Ahead.{HasTaken, StartsWithWord};
 ghost use Rattle.cbpf_syntax.specs.Views.{lexeme_of, row_of};
 ghost use Rattle.cbpf_text.specs.Drafts.{IsStatement, IsDraft, AreTargets, AreSet, same_name};
-ghost use Rattle.cbpf_text.specs.Refusals.{IsRefused};
+ghost use Rattle.cbpf_text.specs.Refusals.{IsPlacedFault};
 
-use crate::fault::{AsmFault, AsmKind, syntax_fault};
-use crate::fault_at::fault_on_line;
+use crate::fault::{AsmKind, syntax_fault};
 use crate::labels::Labels;
 use crate::name::{Name, name_of};
 use crate::operand::value_at;
-use crate::source::asm_fault;
+use crate::placed::PlacedFault;
+use crate::source::lex_fault;
 use cbpf_code::{MAX_INSTRUCTIONS, code_of};
 use cbpf_syntax::{Class, Fields, Lexeme, Reader, Row, Step};
 use std::alloc::{AllocFailed, Allocator};
@@ -152,47 +152,44 @@ fn add_instruction<'a, A: Allocator>(
 
 /// The fault of a text whose tokens go on so far and no farther: its first bad piece, if one comes
 /// later, and else the tokens' fault.
-fn fault_here<A: Allocator>(text: &[u8], reader: &mut Reader<'_, A>, n: usize) -> AsmFault
-    requires text { reader.old.text ≡ text.now }
+fn fault_here<A: Allocator>(reader: &mut Reader<'_, A>, n: usize) -> PlacedFault
     requires within { n ≤ length reader.old.tokens }
     requires end { n ≡ length reader.old.tokens → reader.old.ended ≡ true }
     requires word { 0 < n → StartsWithWord (map lexeme_of reader.old.tokens) }
     ensures { (taken : List lexemes.Lexeme) → HasTaken taken reader.old →
-        ((ts : List lexemes.Lexeme) → AreLexemes text.now (taken ++ ts) →
+        ((ts : List lexemes.Lexeme) → AreLexemes reader.old.text (taken ++ ts) →
         ItemsStuckAt (taken ++ ts) (length taken + n)) →
-        IsRefused text.now result }
+        IsPlacedFault reader.old.text result }
 {
     let refused = reader.fault(n);
     match reader.finish() {
-        Ok(()) => fault_on_line(text, syntax_fault(refused)),
-        Err(fault) => asm_fault(fault),
+        Ok(()) => syntax_fault(refused),
+        Err(fault) => lex_fault(fault),
     }
 }
 
 /// Reads the items of a text to its end, and puts what is kept of them into an empty draft.
 // It takes references, so that no exit drops anything: that keeps its proof short.
 fn read_items<'a, A: Allocator + Copy>(
-    text: &'a [u8],
     reader: &mut Reader<'a, A>,
     draft: &mut Draft<'a, A>,
-) -> Result<(), AsmFault>
-    requires text { reader.old.text ≡ text.now }
+) -> Result<(), PlacedFault>
     requires reading { HasTaken [] reader.old }
     requires statements { draft.old.statements.items ≡ [] }
     requires excess { draft.old.excess ≡ None }
     requires labels { AreSet [] draft.old.labels.repeat (λ k. get same_name draft.old.labels.table k) }
-    ensures items { OnOk result ((ts : List lexemes.Lexeme) × (is : List items.Item) × AreLexemes text.now ts ×
+    ensures items { OnOk result ((ts : List lexemes.Lexeme) × (is : List items.Item) × AreLexemes reader.old.text ts ×
         Items ts is × IsAccepted ts ×
         IsDraft draft.new.excess draft.new.statements.items draft.new.labels.repeat
         (λ k. get same_name draft.new.labels.table k) is []) }
     ensures size { OnOk result (length draft.new.statements.items ≤ MAX_INSTRUCTIONS) }
-    ensures refused { IfErr result (IsRefused text.now) }
+    ensures refused { IfErr result (IsPlacedFault reader.old.text) }
 {
     let mut waits = false;
     loop {
         let next = match reader.step() {
             Ok(next) => next,
-            Err(fault) => return Err(asm_fault(fault)),
+            Err(fault) => return Err(lex_fault(fault)),
         };
         match next {
             Some(Step::Label) => {
@@ -206,11 +203,11 @@ fn read_items<'a, A: Allocator + Copy>(
                 reader.take(n);
                 waits = false;
             }
-            Some(Step::Stuck(n)) => return Err(fault_here(text, reader, n)),
-            None if waits => return Err(fault_here(text, reader, 0)),
+            Some(Step::Stuck(n)) => return Err(fault_here(reader, n)),
+            None if waits => return Err(fault_here(reader, 0)),
             None => {
                 return match reader.large() {
-                    Some(at) => Err(fault_on_line(text, (AsmKind::LargeNumber, at))),
+                    Some(at) => Err(PlacedFault::At(AsmKind::LargeNumber, at)),
                     None => Ok(()),
                 };
             }
@@ -222,14 +219,14 @@ fn read_items<'a, A: Allocator + Copy>(
 pub(crate) fn read<'a, A: Allocator + Copy>(
     alloc: A,
     text: &'a [u8],
-) -> Result<Draft<'a, A>, AsmFault>
+) -> Result<Draft<'a, A>, PlacedFault>
     ensures items { IfOk result
         (λ draft. (ts : List lexemes.Lexeme) × (is : List items.Item) × AreLexemes text.now ts ×
         Items ts is × IsAccepted ts ×
         IsDraft draft.excess draft.statements.items draft.labels.repeat
         (λ k. get same_name draft.labels.table k) is []) }
     ensures size { IfOk result (λ draft. length draft.statements.items ≤ MAX_INSTRUCTIONS) }
-    ensures refused { IfErr result (IsRefused text.now) }
+    ensures refused { IfErr result (IsPlacedFault text.now) }
 {
     let mut reader = Reader::new(alloc, text);
     let mut draft = Draft {
@@ -237,7 +234,7 @@ pub(crate) fn read<'a, A: Allocator + Copy>(
         labels: Labels::new(alloc, text),
         excess: None,
     };
-    match read_items(text, &mut reader, &mut draft) {
+    match read_items(&mut reader, &mut draft) {
         Ok(()) => Ok(draft),
         Err(fault) => Err(fault),
     }

@@ -4,10 +4,10 @@ ghost use Rattle.std.specs.Prelude.{◌≡◌, ℕ};
 ghost use Rattle.cbpf_syntax.specs.Refusals.{ParseFault, reported_at};
 ghost use Rattle.cbpf_text.specs.Messages.{kind_text};
 ghost use Rattle.cbpf_text.specs.Refusals.{bad_piece_kind, grammar_kind};
+ghost use Rattle.cbpf_text.specs.declared.placed.PlacedFault.TheVariants.{At};
 
-use crate::fault_at::FaultAt;
+use crate::placed::PlacedFault;
 use cbpf_syntax::{BadPiece, SyntaxFault};
-use std::alloc::{AllocError, AllocFailed};
 use std::error::Error;
 use std::fmt;
 
@@ -84,13 +84,13 @@ pub(crate) fn bad_piece_kind(bad: BadPiece) -> AsmKind
 }
 
 /// What a refusal of the grammar is reported as.
-pub(crate) fn syntax_fault(refused: SyntaxFault) -> FaultAt
-    ensures { (fault : ParseFault) (at : ℕ) → refused ≡ reported_at fault at → result ≡ (grammar_kind fault, at) }
+pub(crate) fn syntax_fault(refused: SyntaxFault) -> PlacedFault
+    ensures { (fault : ParseFault) (at : ℕ) → refused ≡ reported_at fault at → result ≡ At (grammar_kind fault) at }
 {
     match refused {
-        SyntaxFault::Misplaced(at) => (AsmKind::Misplaced, at),
-        SyntaxFault::LargeNegative(at) => (AsmKind::LargeNumber, at),
-        SyntaxFault::Unfinished(at) => (AsmKind::Unfinished, at),
+        SyntaxFault::Misplaced(at) => PlacedFault::At(AsmKind::Misplaced, at),
+        SyntaxFault::LargeNegative(at) => PlacedFault::At(AsmKind::LargeNumber, at),
+        SyntaxFault::Unfinished(at) => PlacedFault::At(AsmKind::Unfinished, at),
     }
 }
 
@@ -120,25 +120,3 @@ impl fmt::Display for AsmFault {
 }
 
 impl Error for AsmFault {}
-
-impl<T: Drop> From<AllocFailed<T>> for AsmFault {
-    ghost use Rattle.std.specs.Prelude.{◌≡◌};
-    ghost use Rattle.cbpf_text.specs.declared.fault.AsmFault.TheVariants.{Memory};
-
-    ghost from_gives = { λ _ e. e ≡ Memory };
-
-    fn from(_: AllocFailed<T>) -> Self {
-        AsmFault::Memory
-    }
-}
-
-impl From<AllocError> for AsmFault {
-    ghost use Rattle.std.specs.Prelude.{◌≡◌};
-    ghost use Rattle.cbpf_text.specs.declared.fault.AsmFault.TheVariants.{Memory};
-
-    ghost from_gives = { λ _ e. e ≡ Memory };
-
-    fn from(_: AllocError) -> Self {
-        AsmFault::Memory
-    }
-}

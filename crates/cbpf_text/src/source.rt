@@ -2,19 +2,20 @@
 
 ghost use Rattle.std.specs.Prelude.{ℕ, List, IfOk, IfErr, All};
 ghost use Rattle.cbpf_syntax.specs.Tokens.{Lexes, IsLexFault, IsSpanOf};
-ghost use Rattle.cbpf_text.specs.Refusals.{IsLexRefused};
+ghost use Rattle.cbpf_text.specs.Refusals.{IsLexRefused, IsPlacedPiece};
 
 use crate::fault::{AsmFault, bad_piece_kind};
+use crate::placed::PlacedFault;
 use cbpf_syntax::{LexFault, Token};
 use std::alloc::Allocator;
 
 /// What is reported of a text that has no tokens.
-pub(crate) fn asm_fault(fault: LexFault) -> AsmFault
-    ensures { (text : List ℕ) → IsLexFault text fault → IsLexRefused text result }
+pub(crate) fn lex_fault(fault: LexFault) -> PlacedFault
+    ensures { (text : List ℕ) → IsLexFault text fault → IsPlacedPiece text result }
 {
     match fault {
-        LexFault::Memory => AsmFault::Memory,
-        LexFault::At(bad, line) => AsmFault::At(bad_piece_kind(bad), line),
+        LexFault::Memory => PlacedFault::Memory,
+        LexFault::At(bad, at) => PlacedFault::At(bad_piece_kind(bad), at),
     }
 }
 
@@ -31,6 +32,6 @@ pub fn tokens<A: Allocator>(alloc: A, text: &[u8]) -> Result<Vec<Token, A>, AsmF
 {
     match cbpf_syntax::tokens(alloc, text) {
         Ok(found) => Ok(found),
-        Err(fault) => Err(asm_fault(fault)),
+        Err(fault) => Err(lex_fault(fault).on_line(text)),
     }
 }

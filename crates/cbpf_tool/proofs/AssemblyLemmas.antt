@@ -1,5 +1,5 @@
 -- What the assembler's answers mean.
-use Rattle.std.proofs.Common.{ℕ, List, [], refl}
+use Rattle.std.proofs.Common.{◌≡◌, ℕ, List, [], refl, subst}
 use Rattle.std.specs.Prelude.{◌≢◌, IfErr, Option, Result, Ok, Err}
 use Rattle.std.specs.Io.KnownBytes.{Keeps}
 use Rattle.cbpf_code.specs.Writing.{Appended, AppendedPart}
@@ -7,13 +7,14 @@ use Rattle.cbpf_code.proofs.WrittenLemmas.{appended-nil, appended-kept}
 use Rattle.cbpf_code.specs.declared.form.Form.{Form}
 use Rattle.cbpf_code.specs.declared.insn.Insn.{Insn}
 use Rattle.cbpf_text.specs.Assembled.{Assembles}
-use Rattle.cbpf_text.specs.Refusals.{IsRefused}
+use Rattle.cbpf_text.specs.Refusals.{IsRefused, IsPlacedFault}
+use Rattle.cbpf_text.specs.declared.placed.PlacedFault.{PlacedFault}
 use Rattle.cbpf_text.specs.declared.fault.AsmFault.{AsmFault}
 use Rattle.cbpf_text.specs.declared.fault.AsmFault.TheVariants as asm
 use Rattle.cbpf_tool.specs.declared.fault.ToolFault.{ToolFault}
 use Rattle.cbpf_tool.specs.declared.fault.ToolFault.TheVariants.{Source, Read, Write, Memory}
 use Rattle.cbpf_tool.specs.Assembling.{Assembled, IsReadingFault, form_text}
-use Rattle.cbpf_tool.specs.Jobs.{IsAssembled}
+use Rattle.cbpf_tool.specs.Jobs.{IsAssembled, refuses, answers, source_failure, tooled}
 use Rattle.cbpf_tool.specs.declared.failure.Failure.TheVariants.{Tool}
 use Rattle.cbpf_tool.proofs.ScriptLemmas.{part-whole}
 
@@ -51,13 +52,25 @@ module _ (source : List ℕ) (form : Form) (old : Option (List ℕ)) where
     unfolding Assembled
     asm-done mid new x w k = (list, a, appended-kept old mid new (form_text form list) w k)
 
+-- ---- the answers of a job
+
 -- a source that could not be read or held
 pub unread-shown : (source : List ℕ) (form : Form) (old : Option (List ℕ)) (e : ToolFault) → IsReadingFault e
     → IsAssembled source form old old (Err (Tool e))
-unread-shown source form old Read h = (Err Read, refl, asm-unread source form old Read h)
-unread-shown source form old Memory h = (Err Memory, refl, asm-unread source form old Memory h)
+unread-shown source form old Read h = answers (Err Read) tt refl (asm-unread source form old Read h)
+unread-shown source form old Memory h = answers (Err Memory) tt refl (asm-unread source form old Memory h)
 unread-shown source form old Write h = absurd h
 unread-shown source form old (Source f) h = absurd h
+
+pub refused-shown : (source : List ℕ) (form : Form) (old : Option (List ℕ)) (fault : PlacedFault)
+    → IsPlacedFault source fault → IsAssembled source form old old (Err (source_failure source fault))
+refused-shown source form old fault h = refuses fault h refl (appended-nil old)
+
+pub written-shown : (source : List ℕ) (form : Form) (old new : Option (List ℕ)) (t : Result (Unit {0}) ToolFault)
+    → IfErr t (λ e. e ≡ Write) → Assembled source form old new t → IsAssembled source form old new (tooled t)
+written-shown source form old new (Ok x) h a = answers (Ok x) tt refl a
+written-shown source form old new (Err e) h a =
+    rw h (answers (Err Write) tt refl (subst (λ f. Assembled source form old new (Err f)) h a))
 
 pub asm-untouched : (source : List ℕ) (form : Form) (old new : Option (List ℕ)) (r : Result (Unit {0}) ToolFault)
     → Assembled source form old new r → IfErr r (λ e. e ≢ Write → Appended old new [])

@@ -13,7 +13,7 @@ use Rattle.cbpf_tool.specs.declared.fault.ToolFault.{ToolFault}
 use Rattle.cbpf_tool.specs.declared.fault.ToolFault.TheVariants.{Source as RefusedSource, Read, Write, Memory}
 use Rattle.std.specs.FinMap as map
 use Rattle.cbpf_tool.specs.Hosted.{Hosted, Event, and_then, without_output, opened, created, wrote, printed}
-use Rattle.cbpf_tool.specs.Jobs.{tooled, RanOnce, RunsTool, AssembledTo, AssemblesTo, DebuggedTo, RepliesTo}
+use Rattle.cbpf_tool.specs.Jobs.{tooled, RanOnce, RunsTool, IsAssembled, refuses, answers, AssemblesTo, DebuggedTo, RepliesTo}
 use Rattle.cbpf_tool.specs.declared.failure.Failure.{Failure}
 use Rattle.cbpf_tool.specs.declared.exit.Exit.{Exit}
 use Rattle.cbpf_tool.specs.Exits.{Explained, Helped, after_help}
@@ -39,6 +39,11 @@ assembled-some source form new (Err Read) h = appended-some [] new _ h
 assembled-some source form new (Err Memory) h = appended-some [] new _ h
 assembled-some source form new (Err Write) h = part-some [] new _ h.2
 
+shown-some : (source : List ℕ) (form : Form) (new : Option (List ℕ)) (r : Result (Unit {0}) Failure)
+    → IsAssembled source form (Some []) new r → (text : List ℕ) × (new ≡ Some text)
+shown-some source form new r (refuses fault h e a) = appended-some [] new [] a
+shown-some source form new r (answers t n e a) = assembled-some source form new t a
+
 outcome-some : (script : List ℕ) (left new : Option (List ℕ)) (f g : FileSource) (t : Result (Unit {0}) ToolFault)
     → Debugged script left (Some []) new f g t → (text : List ℕ) × (new ≡ Some text)
 outcome-some script left new f g (Ok x) h = appended-some [] new _ h.outcome.wrote
@@ -51,12 +56,11 @@ outcome-some script left new f g (Err (RefusedSource e)) h = absurd h.outcome
 
 -- the standard output was left with what the assembler wrote
 pub assembled-printed : (h mid new : Hosted) (source : List ℕ) (form : Form) (old w : Option (List ℕ))
-    (t : Result (Unit {0}) ToolFault) → mid ≡ h → old ≡ Some [] → Assembled source form old w t
-    → ((text : List ℕ) → w ≡ Some text → new ≡ and_then mid (printed text ∷ []))
-    → RanOnce h new printed (AssembledTo source form) t
-assembled-printed h mid new source form old w t m o a p =
-    let b : Assembled source form (Some []) w t = rw o at a in
-    let some = assembled-some source form w t b in
+    (r : Result (Unit {0}) Failure) → mid ≡ without_output h → old ≡ Some [] → IsAssembled source form old w r
+    → ((text : List ℕ) → w ≡ Some text → new ≡ and_then mid (printed text ∷ [])) → AssemblesTo h new source form r
+assembled-printed h mid new source form old w r m o a p =
+    let b : IsAssembled source form (Some []) w r = rw o at a in
+    let some = shown-some source form w r b in
     inr (some.0, rw m at (p some.0 some.1), rw some.1 at b)
 
 -- help that was written, and then flushed

@@ -9,12 +9,12 @@ use Rattle.cbpf_why.specs.declared.filter.FilterFault.{FilterFault}
 use Rattle.cbpf_why.specs.declared.filter.FilterFault.TheVariants as filter
 use Rattle.pcap_classic.specs.declared.header.HeaderFault.{HeaderFault}
 use Rattle.pcap_classic.specs.declared.header.HeaderFault.TheVariants as header
-use Rattle.cbpf_tool.specs.SourceLine.{line_at, shown_line}
+use Rattle.cbpf_tool.specs.SourceLine.{line_at, column, shown_line}
 
--- the line that a fault of a source names
-abbrev pub source_hint : List ℕ → AsmFault → List ℕ
-source_hint text asm.Memory = []
-source_hint text (asm.At kind line) = shown_line (line_at text line)
+-- the line of a fault of a source, which stands at this position
+abbrev pub source_hint : List ℕ → AsmFault → ℕ → List ℕ
+source_hint text asm.Memory at = []
+source_hint text (asm.At kind line) at = shown_line (line_at text line) (column text line at)
 
 -- how captures begin: with a magic number in either byte order, or as pcapng or gzip do
 abbrev pub magics : List (List ℕ)
@@ -36,7 +36,7 @@ swapped_hint = codes "    this is a capture, and FILTER stands before CAPTURE\n"
 
 -- a filter that is refused
 abbrev pub filter_hint : List ℕ → FilterFault → List ℕ
-filter_hint text (filter.Source fault) = if is_capture text then swapped_hint else source_hint text fault
+filter_hint text (filter.Source fault at) = if is_capture text then swapped_hint else source_hint text fault at
 filter_hint text (filter.Words fault) = []
 filter_hint text (filter.Check fault) = []
 filter_hint text filter.Memory = []

@@ -2,7 +2,11 @@
 -- project's own). Files that the commands of a script load aren't among these: what they gave stands in the replies.
 use Rattle.std.specs.Prelude.{◌≡◌, ◌⊎◌, ℕ, List, [], ◌∷◌, Option, Some, None, Result, Ok, Err, string_bytes}
 use Rattle.std.specs.FinMap as map
+use Rattle.cbpf_code.specs.Writing.{Appended}
 use Rattle.cbpf_code.specs.declared.form.Form.{Form}
+use Rattle.cbpf_text.specs.Refusals.{IsPlacedFault, on_line}
+use Rattle.cbpf_text.specs.declared.placed.PlacedFault.{PlacedFault}
+use Rattle.cbpf_text.specs.declared.placed.PlacedFault.TheVariants as placed
 use Rattle.cbpf_tool.specs.Assembling.{Assembled}
 use Rattle.cbpf_tool.specs.Debugged.{Debugged}
 use Rattle.cbpf_tool.specs.FileMap.{FileSource, known_source}
@@ -20,11 +24,11 @@ abbrev pub tooled : Result (Unit {0}) ToolFault → Result (Unit {0}) Failure
 tooled (Ok x) = Ok x
 tooled (Err e) = Err (Tool e)
 
--- the result of the assembler over a source as that of a job, which shows the line of the source's fault
-abbrev pub assembled : List ℕ → Result (Unit {0}) ToolFault → Result (Unit {0}) Failure
-assembled source (Ok x) = Ok x
-assembled source (Err (tool.Source fault)) = Err (Source fault (source_hint source fault))
-assembled source (Err e) = Err (Tool e)
+-- the fault of a source as the failure of a job, which shows its line
+abbrev pub source_failure : List ℕ → PlacedFault → Failure
+source_failure source placed.Memory = Tool Memory
+source_failure source (placed.At kind at) =
+    let fault = on_line source (placed.At kind at) in Source fault (source_hint source fault at)
 
 -- the name of the file that could not be opened or created
 abbrev pub unopened : Result (Unit {0}) Failure → Option (List ℕ)
@@ -54,10 +58,6 @@ Prints old new Done r = RunsTool (without_output old) new printed Done r
 abbrev pub EndsWithoutFile : Hosted → Hosted → List ℕ → Event → Result (Unit {0}) Failure → Type 0
 EndsWithoutFile old new name event r = (unopened r ≡ Some name) × (new ≡ and_then old (event ∷ []))
 
--- a source was assembled in a form
-abbrev pub AssembledTo : List ℕ → Form → List ℕ → Result (Unit {0}) ToolFault → Type 0
-AssembledTo source form text t = Assembled source form (Some []) (Some text) t
-
 -- a script was run over the host's files; of `left`, which its reader has left, and of `g`, which is the source of files
 -- afterwards, nothing more is said
 abbrev pub DebuggedTo : Hosted → List ℕ → List ℕ → Result (Unit {0}) ToolFault → Type 0
@@ -65,15 +65,25 @@ DebuggedTo h script text t =
     (left : Option (List ℕ)) × (g : FileSource)
     × Debugged script left (Some []) (Some text) (known_source h.files 0) g t
 
--- an answer of the assembler over a source, as that of a job
-abbrev pub IsAssembled : List ℕ → Form → Option (List ℕ) → Option (List ℕ) → Result (Unit {0}) Failure → Type 0
-IsAssembled source form old new r =
-    (t : Result (Unit {0}) ToolFault) × (r ≡ assembled source t) × Assembled source form old new t
+-- the result is no refusal of the source
+abbrev pub IsNoRefusal : Result (Unit {0}) ToolFault → Type 0
+IsNoRefusal (Err (tool.Source fault)) = ⊥
+IsNoRefusal _ = Unit {0}
 
--- a source was assembled to the standard output
+-- an answer of the assembler over a source, as that of a job: where the source is refused, or no memory was left over it,
+-- nothing was written; else the answer is that of the tool
+pub data IsAssembled (source : List ℕ) (form : Form) (old new : Option (List ℕ)) (r : Result (Unit {0}) Failure)
+    : Type 0 where
+  refuses : (fault : PlacedFault) → IsPlacedFault source fault → r ≡ Err (source_failure source fault)
+      → Appended old new [] → IsAssembled source form old new r
+  answers : (t : Result (Unit {0}) ToolFault) → IsNoRefusal t → r ≡ tooled t → Assembled source form old new t
+      → IsAssembled source form old new r
+
+-- a source was assembled to the standard output, or there was no room for a buffer
 abbrev pub AssemblesTo : Hosted → Hosted → List ℕ → Form → Result (Unit {0}) Failure → Type 0
-AssemblesTo old new source form r = (t : Result (Unit {0}) ToolFault) × (r ≡ assembled source t)
-    × RanOnce (without_output old) new printed (AssembledTo source form) t
+AssemblesTo old new source form r = ((new ≡ without_output old) × (r ≡ Err (Tool Memory)))
+    ⊎ ((text : List ℕ) × (new ≡ and_then (without_output old) (printed text ∷ []))
+    × IsAssembled source form (Some []) (Some text) r)
 
 -- `asm`: the source is the standard input, or the file, which is opened first
 abbrev pub AsmDone : Hosted → Hosted → Form → Option (List ℕ) → Result (Unit {0}) Failure → Type 0

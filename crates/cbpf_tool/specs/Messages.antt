@@ -2,7 +2,7 @@
 use Rattle.std.specs.Prelude.{ℕ, List, ◌++◌, codes, string_bytes}
 use Rattle.cbpf_text.specs.Messages.{fault_text}
 use Rattle.cbpf_why.specs.Messages.{filter_message, why_message}
-use Rattle.cbpf_why.specs.declared.job.WhyFault.TheVariants as why
+use Rattle.cbpf_why.specs.declared.reporting.WhyFault.TheVariants as why
 use Rattle.pcap_classic.specs.Messages.{header_message}
 use Rattle.cbpf_tool.specs.declared.failure.Failure.{Failure, TheVariants.Tool, TheVariants.Source, TheVariants.CannotOpen}
 use Rattle.cbpf_tool.specs.declared.fault.ToolFault.{ToolFault}

@@ -1,7 +1,7 @@
 -- What is said of a report on standard error: which packets the capture lacks of those that were asked for, and where it
 -- is cut (this project's own; the words for a cut are those of the command `load pcap`).
 use Rattle.std.specs.Prelude.{◌≡◌, ℕ, ◌-◌, ◌^◌, ◌%◌, ◌==◌, nat_le, Bool, true, false, ◌&&◌, if◌then◌else◌, List, []}
-use Rattle.std.specs.Prelude.{◌∷◌, ◌++◌, length, codes, decimal, Option, Some, None, is_some, string_bytes}
+use Rattle.std.specs.Prelude.{◌∷◌, ◌++◌, codes, decimal, Option, Some, None, is_some, string_bytes}
 use Rattle.std.specs.List.{flat_map, list_any}
 use Rattle.std.specs.Option.{option_map, option_map_or}
 use Rattle.cbpf_code.specs.Text.{concat, with_number}
@@ -10,10 +10,11 @@ use Rattle.pcap_classic.specs.declared.ending.Ending.{Ending}
 use Rattle.pcap_classic.specs.declared.ending.Ending.TheVariants.{Whole, CutHeader, CutData}
 use Rattle.cbpf_why.specs.Chosen.{beyond}
 use Rattle.cbpf_why.specs.declared.chosen.PacketRange.{PacketRange}
-use Rattle.cbpf_why.specs.declared.job.CaptureEnd.{CaptureEnd}
+use Rattle.cbpf_why.specs.declared.reporting.CaptureEnd.{CaptureEnd}
 use Rattle.cbpf_why.specs.declared.report.Report.{Report}
 use Rattle.cbpf_why.specs.declared.report.Report.TheVariants.{Summary, Traces, Packets, Coverage, Graph}
 use Rattle.cbpf_tool.specs.declared.remarks.Remarks.{Remarks}
+use Rattle.cbpf_tool.specs.declared.report_asked.ReportAsked.{ReportAsked}
 
 -- whether a report is the summary
 abbrev pub is_summary : Report → Bool
@@ -23,17 +24,16 @@ is_summary Packets = false
 is_summary Coverage = false
 is_summary Graph = false
 
--- the summary for which no range is given says where the capture is cut
+-- the summary says where the capture is cut
 abbrev pub report_says_ending : Remarks → Bool
-report_says_ending r = is_summary r.report && (length r.packets.items == 0)
+report_says_ending r = is_summary r.asked.report
 
 -- what is to be said of a report on the capture of this name and link type, which was read to this end, or wasn't
-pub record AreRemarks (report : Report) (ranges : List PacketRange) (name : Option (List ℕ)) (link : ℕ)
-    (end : Option CaptureEnd) (r : Remarks) : Type 0 where
+pub record AreRemarks (asked : ReportAsked) (name : Option (List ℕ)) (link : ℕ) (end : Option CaptureEnd) (r : Remarks)
+    : Type 0 where
   pub capture : option_map (λ n. string_bytes n) r.capture ≡ name
   pub link_type : r.link ≡ link
-  pub kind : r.report ≡ report
-  pub packets : r.packets.items ≡ ranges
+  pub asks : r.asked ≡ asked
   pub ending : r.end ≡ end
 
 -- ---- what a capture lacks
@@ -42,8 +42,8 @@ pub record AreRemarks (report : Report) (ranges : List PacketRange) (name : Opti
 abbrev pub to_end : ℕ
 to_end = 2 ^ 64 - 1
 
--- what a capture of so many packets lacks of a range. One to the end of the capture asks for its first packet, and for
--- those after it that are there
+-- what a capture of so many packets lacks of a range. One to the end of the capture asks for its first packet, if it is
+-- one, and for those after it that are there
 abbrev pub lacking : ℕ → PacketRange → Option PacketRange
 lacking count range = if range.last == to_end && nat_le range.first count then None else beyond count range
 
@@ -94,7 +94,7 @@ name_in r = option_map (λ n. string_bytes n) r.capture
 -- a line for each range of which the capture lacks something, and then one where it is cut and the report doesn't say so
 abbrev pub end_lines : Remarks → CaptureEnd → List ℕ
 end_lines r end =
-    flat_map (λ range. lacking_line (name_in r) (lacking end.count range)) r.packets.items
+    flat_map (λ range. lacking_line (name_in r) (lacking end.count range)) r.asked.packets.items
     ++ (if report_says_ending r then [] else ending_line (name_in r) end.count end.ending)
 
 -- the line of the link type, and those of the end where it was read
@@ -107,4 +107,4 @@ lacks_any ranges count = list_any (λ range. is_some (lacking count range)) rang
 
 -- the capture lacks a packet that was asked for
 abbrev pub lacks_packets : Remarks → Bool
-lacks_packets r = option_map_or (λ (end : CaptureEnd). lacks_any r.packets.items end.count) r.end false
+lacks_packets r = option_map_or (λ (end : CaptureEnd). lacks_any r.asked.packets.items end.count) r.end false

@@ -1,7 +1,7 @@
 -- What a command line asks for, with `why`: which packets, which values and which report (this project's own).
 use Rattle.std.specs.Prelude.{◌≡◌, ℕ, ◌+◌, ◌-◌, ◌^◌, ◌==◌, nat_le, nat_lt, Bool, true, false, if◌then◌else◌, List, [], ◌∷◌}
 use Rattle.std.specs.Prelude.{◌++◌, fold}
-use Rattle.std.specs.Prelude.{length, take, drop, position, find, codes, string_bytes, IsPermutation}
+use Rattle.std.specs.Prelude.{length, take, drop, position, find, bytes_eq, codes, string_bytes, IsPermutation}
 use Rattle.std.specs.Prelude.{Option, Some, None, is_none, option_map, option_and_then, unwrap_or}
 use Rattle.std.specs.Prelude.{Result, Ok, Err, is_err}
 use Rattle.std.specs.List.{filter_map}
@@ -14,6 +14,7 @@ use Rattle.cbpf_command_line.specs.declared.request.Detail.{Detail}
 use Rattle.cbpf_command_line.specs.declared.request.Detail.TheVariants as detail
 use Rattle.cbpf_dbg.specs.Values.{Values, no_values, with_value, takes_value}
 use Rattle.cbpf_why.specs.declared.chosen.PacketRange.{PacketRange}
+use Rattle.cbpf_why.specs.declared.chosen.TheConstants.{ALL_PACKETS}
 use Rattle.cbpf_why.specs.declared.report.Report.{Report}
 use Rattle.cbpf_why.specs.declared.report.Report.TheVariants as report
 use Rattle.cbpf_tool.specs.Numbers.{number_up_to, numeral_value}
@@ -59,6 +60,11 @@ range_by (Some ends) word =
 abbrev pub packet_range : List ℕ → Option PacketRange
 packet_range word = range_by (split_once 45 word) word
 
+-- all packets, where no range is given
+abbrev pub or_all : List PacketRange → List PacketRange
+or_all [] = ALL_PACKETS ∷ []
+or_all (range ∷ ranges) = range ∷ ranges
+
 -- ---- values
 
 -- a name and a number, with `=` between; without a `=` there is no number
@@ -71,14 +77,14 @@ number_by None = Err fault.NumberExpected
 number_by (Some n) = if nat_lt n (2 ^ 32) then Ok n else Err fault.NumberOutOfRange
 
 -- the value of an extension, where it takes one
-abbrev pub taken : Ext → Result ℕ ValueFault → Result (Ext × ℕ) ValueFault
-taken e (Err fault) = Err fault
-taken e (Ok n) = if takes_value e then Ok (e, n) else Err fault.TakesNoValue
+abbrev pub value_for : Ext → Result ℕ ValueFault → Result (Ext × ℕ) ValueFault
+value_for e (Err fault) = Err fault
+value_for e (Ok n) = if takes_value e then Ok (e, n) else Err fault.TakesNoValue
 
 -- the value of the extension of this name, where it is one
 abbrev pub named_value : Option Ext → List ℕ → Result (Ext × ℕ) ValueFault
 named_value None number = Err fault.UnknownExtension
-named_value (Some e) number = taken e (number_by (numeral_value number))
+named_value (Some e) number = value_for e (number_by (numeral_value number))
 
 -- an extension that takes a value, and its value
 abbrev pub value_in : List ℕ → Result (Ext × ℕ) ValueFault
@@ -125,6 +131,13 @@ abbrev pub refusal_text : List ℕ → List ℕ → List ℕ → List ℕ
 refusal_text word argument reason =
     codes "invalid value '" ++ (word ++ (codes "' for '" ++ (argument ++ (codes "': " ++ reason))))
 
+-- the refusal of a word that gives no value, and that of one that names no packets
+abbrev pub value_refusal : List ℕ → ValueFault → List ℕ
+value_refusal word fault = refusal_text word (codes "-v <EXT=N>") (value_reason fault)
+
+abbrev pub packets_refusal : List ℕ → List ℕ
+packets_refusal word = refusal_text word (codes "[PACKET]...") (codes "N, N-M or N- expected, counted from 1")
+
 -- the fault of a word, where one is refused
 abbrev pub refused_by : Option (List ℕ) → Kinds
 refused_by None = []
@@ -154,13 +167,17 @@ report_by (Some detail.Graph) has_packets = report.Graph
 report_by None true = report.Traces
 report_by None false = report.Summary
 
+-- the name of the capture's file; there is none for `-`, which is the standard input
+abbrev pub file_name : Option (List ℕ) → Option (List ℕ)
+file_name name = option_and_then (λ n. if bytes_eq n (codes "-") then None else Some n) name
+
 -- this job is what the words of `why` ask for
 pub record IsWhyJob (asked : WhyAsked) (j : WhyJob) : Type 0 where
   pub report : j.asked.report ≡ report_by asked.detail (nat_lt 0 (length asked.packets))
   pub values : j.asked.values ≡ values_by asked.values
   pub filter : string_bytes j.filter ≡ asked.filter
-  pub capture : option_map (λ name. string_bytes name) j.capture ≡ asked.capture
-  pub packets : IsPermutation (filter_map packet_range asked.packets) j.asked.packets.items
+  pub capture : option_map (λ name. string_bytes name) j.capture ≡ file_name asked.capture
+  pub packets : IsPermutation (or_all (filter_map packet_range asked.packets)) j.asked.packets.items
 
 -- a request is what the words ask for
 abbrev pub IsRequest : Requested → Request → Type 0

@@ -1,24 +1,22 @@
 -- What `why` does on a host: what is opened, read and printed, in which order, and which fault ends it (this
 -- project's own).
-use Rattle.std.specs.Prelude.{◌≡◌, ◌≢◌, ◌⊎◌, ℕ, if◌then◌else◌, List, [], ◌∷◌, Option, Some, None, Result, Ok, Err}
-use Rattle.std.specs.Prelude.{MatchResult, bytes_eq, codes, string_bytes}
-use Rattle.std.specs.Option.{option_map, option_and_then}
+use Rattle.std.specs.Prelude.{◌≡◌, ◌≢◌, ◌⊎◌, ℕ, List, [], ◌∷◌, Option, Some, None, Result, Ok, Err}
+use Rattle.std.specs.Prelude.{MatchResult, string_bytes}
+use Rattle.std.specs.Option.{option_map}
 use Rattle.std.specs.FinMap as map
 use Rattle.cbpf_code.specs.declared.insn.Insn.{Insn}
-use Rattle.cbpf_dbg.specs.Machine.{Machine, machine_of}
+use Rattle.cbpf_dbg.specs.Machine.{machine_of}
 use Rattle.pcap_classic.specs.Savefile.{Savefile, IsSavefile, IsHeaderRefusal}
 use Rattle.pcap_classic.specs.declared.header.HeaderFault.{HeaderFault}
 use Rattle.pcap_classic.specs.declared.reading.OpenFault.{OpenFault}
 use Rattle.pcap_classic.specs.declared.reading.OpenFault.TheVariants as open_fault
 use Rattle.pcap_classic.specs.declared.reading.ReadFault.TheVariants as read_fault
 use Rattle.cbpf_why.specs.Filters.{IsFilter, IsNoFilter}
-use Rattle.cbpf_why.specs.Reports.{Reported}
-use Rattle.cbpf_why.specs.declared.chosen.PacketRange.{PacketRange}
+use Rattle.cbpf_why.specs.Reports.{ReadsWithin, Reported}
 use Rattle.cbpf_why.specs.declared.filter.FilterFault.TheVariants as filter_fault
-use Rattle.cbpf_why.specs.declared.job.CaptureEnd.{CaptureEnd}
-use Rattle.cbpf_why.specs.declared.job.WhyFault.{WhyFault}
-use Rattle.cbpf_why.specs.declared.job.WhyFault.TheVariants as why_fault
-use Rattle.cbpf_why.specs.declared.report.Report.{Report}
+use Rattle.cbpf_why.specs.declared.reporting.CaptureEnd.{CaptureEnd}
+use Rattle.cbpf_why.specs.declared.reporting.WhyFault.{WhyFault}
+use Rattle.cbpf_why.specs.declared.reporting.WhyFault.TheVariants as why_fault
 use Rattle.cbpf_tool.specs.Hints.{filter_hint}
 use Rattle.cbpf_tool.specs.Hosted.{Hosted, and_then, without_input, without_output, opened, not_opened, printed}
 use Rattle.cbpf_tool.specs.declared.failure.Failure.TheVariants.{Tool, CannotOpen}
@@ -49,11 +47,11 @@ IsReportFailure name why_fault.Memory e = e ≡ failed Memory
 
 -- the result of a report on the capture of this name and link type, as the result of the job: its remarks, or the
 -- failure for its fault
-abbrev pub IsReported : Report → List PacketRange → Option (List ℕ) → ℕ → Result (Option CaptureEnd) WhyFault
+abbrev pub IsReported : ReportAsked → Option (List ℕ) → ℕ → Result (Option CaptureEnd) WhyFault
     → Result Remarks WhyFailure → Type 0
-IsReported report ranges name link (Ok end) (Ok remarks) = AreRemarks report ranges name link end remarks
-IsReported report ranges name link (Err fault) (Err e) = IsReportFailure name fault e
-IsReported report ranges name link _ _ = ⊥
+IsReported asked name link (Ok end) (Ok remarks) = AreRemarks asked name link end remarks
+IsReported asked name link (Err fault) (Err e) = IsReportFailure name fault e
+IsReported asked name link _ _ = ⊥
 
 -- the failure is that the capture of this name could not be opened
 abbrev pub IsUnopened : List ℕ → WhyFailure → Type 0
@@ -93,25 +91,21 @@ OpensFilter old new name r = NotOpened IsNoFile old new name r
 
 -- ---- the report
 
--- what is asked: which report of which packets, of a program with values. It is what a `Question` of cbpf_why says
-pub record Query : Type 0 where
-  pub report : Report
-  pub ranges : List PacketRange
-  pub machine : Machine
-
--- the same of a program and a report that is asked for
-abbrev pub query_of : List Insn → ReportAsked → Query
-query_of p a = record { report = a.report; ranges = a.packets.items; machine = machine_of p a.values }
+-- what is asked of this program, as `Reported` of cbpf_why says it
+abbrev pub IsReportOf : List Insn → ReportAsked → Savefile → ℕ → Option (List ℕ) → Option (List ℕ)
+    → Result (Option CaptureEnd) WhyFault → Type 0
+IsReportOf p asked c count old new done =
+    Reported asked.report asked.packets.items (machine_of p asked.values) c count old new done
 
 -- a report on a capture is the one text that was printed, and its result is the job's; or there was no room for a
 -- buffer, and nothing was printed
-pub data PrintsReport (old new : Hosted) (q : Query) (name : Option (List ℕ)) (c : Savefile)
+pub data PrintsReport (old new : Hosted) (p : List Insn) (asked : ReportAsked) (name : Option (List ℕ)) (c : Savefile)
     (r : Result Remarks WhyFailure) : Type 0 where
-  no_room : new ≡ without_output old → r ≡ Err (failed Memory) → PrintsReport old new q name c r
+  no_room : new ≡ without_output old → r ≡ Err (failed Memory) → PrintsReport old new p asked name c r
   prints : (text : List ℕ) (count : ℕ) (done : Result (Option CaptureEnd) WhyFault)
-      → new ≡ and_then (without_output old) (printed text ∷ [])
-      → Reported q.report q.ranges q.machine c count (Some []) (Some text) done
-      → IsReported q.report q.ranges name c.link done r → PrintsReport old new q name c r
+      → new ≡ and_then (without_output old) (printed text ∷ []) → ReadsWithin asked.packets.items count
+      → IsReportOf p asked c count (Some []) (Some text) done
+      → IsReported asked name c.link done r → PrintsReport old new p asked name c r
 
 -- the fault of a header, with the capture's name where it is a file
 abbrev pub IsHeaderFailure : Option (List ℕ) → HeaderFault → WhyFailure → Type 0
@@ -127,24 +121,21 @@ IsOpenFailure name (open_fault.Read read_fault.Memory) e = e ≡ failed Memory
 
 -- a report on the capture that has these bytes. Where their header is refused or could not be read, or there was no memory
 -- for it, nothing was printed, and the standard output was not asked for
-pub data ReportsOn (old new : Hosted) (q : Query) (name : Option (List ℕ)) (bytes : List ℕ)
+pub data ReportsOn (old new : Hosted) (p : List Insn) (asked : ReportAsked) (name : Option (List ℕ)) (bytes : List ℕ)
     (r : Result Remarks WhyFailure) : Type 0 where
   unread : (e : WhyFailure) → new ≡ old → IsReadFailure name e ⊎ (e ≡ failed Memory) → r ≡ Err e
-      → ReportsOn old new q name bytes r
+      → ReportsOn old new p asked name bytes r
   no_capture : (fault : HeaderFault) (e : WhyFailure) → new ≡ old → IsHeaderRefusal fault bytes
-      → IsHeaderFailure name fault e → r ≡ Err e → ReportsOn old new q name bytes r
-  a_capture : (c : Savefile) → IsSavefile bytes c → PrintsReport old new q name c r → ReportsOn old new q name bytes r
-
--- the name of the capture's file; there is none for `-`, which is the standard input
-abbrev pub file_name : Option (List ℕ) → Option (List ℕ)
-file_name name = option_and_then (λ n. if bytes_eq n (codes "-") then None else Some n) name
+      → IsHeaderFailure name fault e → r ≡ Err e → ReportsOn old new p asked name bytes r
+  a_capture : (c : Savefile) → IsSavefile bytes c → PrintsReport old new p asked name c r
+      → ReportsOn old new p asked name bytes r
 
 -- a report on the standard input, or on the file of this name, which is opened first
-abbrev pub ReportsBy : Hosted → Hosted → Query → Option (List ℕ) → Result Remarks WhyFailure → Type 0
-ReportsBy old new q None r = ReportsOn (without_input old) new q None old.input r
-ReportsBy old new q (Some name) r = NotOpened IsUnopened old new name r
+abbrev pub ReportsBy : Hosted → Hosted → List Insn → ReportAsked → Option (List ℕ) → Result Remarks WhyFailure → Type 0
+ReportsBy old new p asked None r = ReportsOn (without_input old) new p asked None old.input r
+ReportsBy old new p asked (Some name) r = NotOpened IsUnopened old new name r
     ⊎ ((bytes : List ℕ) × (map.get old.files name ≡ Some bytes)
-    × ReportsOn (and_then old (opened name ∷ [])) new q (Some name) bytes r)
+    × ReportsOn (and_then old (opened name ∷ [])) new p asked (Some name) bytes r)
 
 -- ---- the job
 
@@ -155,5 +146,5 @@ pub record WhyDone (old new : Hosted) (job : WhyJob) (r : Result Remarks WhyFail
   pub filter : Result (List Insn) WhyFailure
   pub opens : OpensFilter old mid (string_bytes job.filter) filter
   pub goes : MatchResult filter
-      (λ p. ReportsBy mid new (query_of p job.asked) (file_name (option_map (λ n. string_bytes n) job.capture)) r)
+      (λ p. ReportsBy mid new p job.asked (option_map (λ n. string_bytes n) job.capture) r)
       (λ e. (new ≡ mid) × (r ≡ Err e))

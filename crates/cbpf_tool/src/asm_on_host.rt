@@ -5,16 +5,32 @@ ghost use Rattle.std.specs.Option.{option_map};
 ghost use Rattle.cbpf_tool.specs.Hosted.{IsReady};
 ghost use Rattle.cbpf_tool.specs.Jobs.{AsmDone, AssemblesTo, IsAssembled};
 
-use crate::assembler::{assemble_into, read_source};
-use crate::failure::{Failure, assembled};
+use crate::assembler::{read_source, write_and_flush};
+use crate::failure::{Failure, source_failure, tooled};
 use crate::fault::ToolFault;
 use crate::host::Host;
 use cbpf_code::Form;
+use cbpf_text::assemble_placed;
 use std::alloc::Allocator;
 use std::io::{Read, Write};
 
-/// Assembles what a reader gives, and shows the line of the source's fault.
-fn assemble_shown<A: Allocator, I: Read, W: Write>(
+/// Assembles a source, and shows the line of its fault.
+fn assemble_shown<A: Allocator + Copy, W: Write>(
+    alloc: A,
+    source: &[u8],
+    writer: &mut W,
+    form: Form,
+) -> Result<(), Failure>
+    ensures { IsAssembled source.now form (W.contents writer.old) (W.contents writer.new) result }
+{
+    match assemble_placed(alloc, source) {
+        Ok(list) => tooled(write_and_flush(writer, &list, form)),
+        Err(fault) => Err(source_failure(source, fault)),
+    }
+}
+
+/// The same of what a reader gives.
+fn assemble_all<A: Allocator, I: Read, W: Write>(
     alloc: A,
     reader: &mut I,
     writer: &mut W,
@@ -24,7 +40,7 @@ fn assemble_shown<A: Allocator, I: Read, W: Write>(
         IsAssembled source form (W.contents writer.old) (W.contents writer.new) result }
 {
     match read_source(&alloc, reader) {
-        Ok(source) => assembled(&source, assemble_into(&alloc, &source, writer, form)),
+        Ok(source) => assemble_shown(&alloc, &source, writer, form),
         Err(fault) => Err(Failure::Tool(fault)),
     }
 }
@@ -42,7 +58,7 @@ fn assemble_from<A: Allocator, H: Host, I: Read>(
     let Ok(mut writer) = host.output() else {
         return Err(Failure::Tool(ToolFault::Memory));
     };
-    let done = assemble_shown(alloc, reader, &mut writer, form);
+    let done = assemble_all(alloc, reader, &mut writer, form);
     host.print(writer);
     done
 }

@@ -52,9 +52,14 @@ fn write_form<W: Write>(w: &mut W, list: &[Insn], form: Form) -> Result<(), Writ
 }
 
 /// Writes the instructions that a source assembles to.
-fn write_and_flush<W: Write>(w: &mut W, list: &[Insn], form: Form) -> Result<(), ToolFault>
-    ensures { (source : List ℕ) → Assembles source list.now
+pub(crate) fn write_and_flush<W: Write>(
+    w: &mut W,
+    list: &[Insn],
+    form: Form,
+) -> Result<(), ToolFault>
+    ensures wrote { (source : List ℕ) → Assembles source list.now
         → Assembled source form (W.contents w.old) (W.contents w.new) result }
+    ensures fault { IfErr result (λ e. e ≡ fault.Write) }
 {
     match write_form(w, list, form) {
         Err(_) => Err(ToolFault::Write),
@@ -67,7 +72,7 @@ fn write_and_flush<W: Write>(w: &mut W, list: &[Insn], form: Form) -> Result<(),
 
 /// Writes the instructions of a source.
 #[tactic(auto, using(crate::proofs::AssemblyLemmas::asm_answers))]
-pub(crate) fn assemble_into<A: Allocator + Copy, W: Write>(
+fn assemble_into<A: Allocator + Copy, W: Write>(
     alloc: A,
     source: &[u8],
     writer: &mut W,

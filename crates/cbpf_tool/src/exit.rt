@@ -85,7 +85,7 @@ fn write_filter_fault<W: Write>(w: &mut W, fault: FilterFault) -> Result<(), Wri
     ensures { Wrote (W.contents w.old) (W.contents w.new) result (spec.with_newline (filter_message fault)) }
 {
     match fault {
-        FilterFault::Source(fault) => write_source_fault(w, fault),
+        FilterFault::Source(fault, _) => write_source_fault(w, fault),
         FilterFault::Words(fault) => write_message(w, b"", fault.message()),
         FilterFault::Check(fault) => write_message(w, b"", fault.message()),
         FilterFault::Memory => write_bytes(w, b"out of memory\n"),

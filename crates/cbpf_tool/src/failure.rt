@@ -6,7 +6,7 @@ ghost use Rattle.cbpf_tool.specs.Jobs as spec;
 use crate::fault::ToolFault;
 use crate::hints::{Hint, source_hint};
 use crate::host::CreateFault;
-use cbpf_text::AsmFault;
+use cbpf_text::{AsmFault, PlacedFault};
 use std::error::Error;
 use std::fmt;
 
@@ -48,13 +48,15 @@ pub(crate) fn tooled(done: Result<(), ToolFault>) -> Result<(), Failure>
     }
 }
 
-/// The result of the assembler over a source as that of a job.
-pub(crate) fn assembled(source: &[u8], done: Result<(), ToolFault>) -> Result<(), Failure>
-    ensures { result ≡ spec.assembled source.now done }
+/// The fault of a source as the failure of a job, which shows its line.
+pub(crate) fn source_failure(source: &[u8], fault: PlacedFault) -> Failure
+    ensures { result ≡ spec.source_failure source.now fault }
 {
-    match done {
-        Ok(()) => Ok(()),
-        Err(ToolFault::Source(fault)) => Err(Failure::Source(fault, source_hint(source, fault))),
-        Err(fault) => Err(Failure::Tool(fault)),
+    match fault {
+        PlacedFault::Memory => Failure::Tool(ToolFault::Memory),
+        PlacedFault::At(_, at) => {
+            let fault = fault.on_line(source);
+            Failure::Source(fault, source_hint(source, fault, at))
+        }
     }
 }

@@ -49,14 +49,14 @@ impl Hint {
     }
 }
 
-/// The line that a fault of a source names.
-pub(crate) fn source_hint(text: &[u8], fault: AsmFault) -> Hint
-    ensures { result ≡ spec.source_hint text.now fault }
+/// The line of a fault of a source, which stands at this position.
+pub(crate) fn source_hint(text: &[u8], fault: AsmFault, at: usize) -> Hint
+    ensures { result ≡ spec.source_hint text.now fault at }
 {
     match fault {
         AsmFault::Memory => Hint::none(),
         AsmFault::At(_, line) => Hint {
-            line: shown_line(text, line),
+            line: shown_line(text, line, at),
         },
     }
 }
@@ -87,8 +87,8 @@ pub(crate) fn filter_hint(text: &[u8], fault: FilterFault) -> Hint
     ensures { result ≡ spec.filter_hint text.now fault }
 {
     match fault {
-        FilterFault::Source(_) if is_capture(text) => swapped_hint(),
-        FilterFault::Source(fault) => source_hint(text, fault),
+        FilterFault::Source(_, _) if is_capture(text) => swapped_hint(),
+        FilterFault::Source(fault, at) => source_hint(text, fault, at),
         _ => Hint::none(),
     }
 }

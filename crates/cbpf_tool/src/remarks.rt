@@ -7,6 +7,7 @@ ghost use Rattle.cbpf_code.specs.Writing.{Wrote};
 ghost use Rattle.cbpf_code.specs.declared.writing.TheConstants.{LINE_SIZE};
 ghost use Rattle.cbpf_tool.specs.Remarks as spec;
 
+use crate::report_asked::ReportAsked;
 use cbpf_code::{Line, WriteFault, write_bytes, write_parts, write_with_number};
 use cbpf_reply::write_cut;
 use cbpf_why::{CaptureEnd, PacketRange, Report};
@@ -22,8 +23,8 @@ const LINK_TYPES: u32 = 65_536;
 /// The last number of a range that goes to the end of the capture.
 pub(crate) const TO_END: u64 = u64::MAX;
 
-/// What a capture of so many packets lacks of a range. One to the end of the capture asks for its first packet, and for
-/// those after it that are there.
+/// What a capture of so many packets lacks of a range. One to the end of the capture asks for its first packet, if it is
+/// one, and for those after it that are there.
 fn lacking(range: PacketRange, count: u64) -> Option<PacketRange>
     ensures { result ≡ spec.lacking count range }
 {
@@ -41,9 +42,8 @@ pub struct Remarks {
     pub capture: Option<String>,
     /// The link type of the capture, as it stands in the file.
     pub link: u32,
-    pub report: Report,
-    /// Which packets were asked for; where the list is empty, it is all.
-    pub packets: Vec<PacketRange>,
+    /// Which report it is, and of which packets.
+    pub asked: ReportAsked,
     /// How the capture ends, where its end was read.
     pub end: Option<CaptureEnd>,
 }
@@ -54,7 +54,7 @@ impl Remarks {
         ensures { result ≡ spec.lacks_packets self.now }
     {
         match self.end {
-            Some(end) => lacks_any(self.packets.as_slice(), end.count),
+            Some(end) => lacks_any(self.asked.packets.as_slice(), end.count),
             None => false,
         }
     }
@@ -63,7 +63,7 @@ impl Remarks {
     fn report_says_ending(&self) -> bool
         ensures { result ≡ spec.report_says_ending self.now }
     {
-        matches!(self.report, Report::Summary) && self.packets.is_empty()
+        matches!(self.asked.report, Report::Summary)
     }
 }
 
@@ -221,7 +221,12 @@ fn write_end_lines<W: Write>(
 ) -> Result<(), WriteFault>
     ensures { Wrote (W.contents w.old) (W.contents w.new) result (spec.end_lines remarks.now end) }
 {
-    write_lacking_lines(w, &remarks.capture, remarks.packets.as_slice(), end.count)?;
+    write_lacking_lines(
+        w,
+        &remarks.capture,
+        remarks.asked.packets.as_slice(),
+        end.count,
+    )?;
     if remarks.report_says_ending() {
         return Ok(());
     }

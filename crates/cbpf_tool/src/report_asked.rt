@@ -10,7 +10,7 @@ use cbpf_why::{PacketRange, Report};
 pub struct ReportAsked {
     pub report: Report,
     pub values: Values,
-    /// Which packets are looked at, sorted; where the list is empty, it is all.
+    /// Which packets are looked at, sorted; none, where the list is empty.
     pub packets: Vec<PacketRange>,
     ghost sorted: { AreSorted packets.items } by { sorted_is_a_fact packets.items },
 }

@@ -1,12 +1,13 @@
 //! What a command line asks for, with `why`.
 
 ghost use Rattle.std.specs.Prelude.{◌≡◌, ◌==◌, ◌<◌, [], length, position, map, filter_map, option_map};
-ghost use Rattle.std.specs.Prelude.{false, Some, None, Err, IfSome, IfOk, IfErr, OnOk, MatchResult, IsPermutation};
+ghost use Rattle.std.specs.Prelude.{false, Some, None, Err, IfSome, IfOk, IfErr, OnOk, MatchResult, IsPermutation, string_bytes};
 ghost use Rattle.cbpf_command_line.specs.CommandLine.{text_of, IsFaultOf, faults_in};
 ghost use Rattle.cbpf_command_line.specs.RequestLine.{names_why, requested_for, why_meaning, word_faults};
 ghost use Rattle.cbpf_why.specs.Chosen.{AreSorted};
 ghost use Rattle.cbpf_tool.specs.Numbers.{numeral_value};
 ghost use Rattle.cbpf_tool.specs.Requests as spec;
+ghost use Rattle.cbpf_tool.specs.declared.request.NamesFault.TheVariants as names;
 
 use crate::number::{LIMIT, number_up_to, numeral_value};
 use crate::remarks::TO_END;
@@ -16,7 +17,7 @@ use cbpf_command_line::{
     Detail, Job, LineFault, RequestWords, WhyWords, refused_word, request_line,
 };
 use cbpf_dbg::Values;
-use cbpf_why::{PacketRange, Report};
+use cbpf_why::{ALL_PACKETS, PacketRange, Report};
 use std::alloc::{AllocError, Global};
 
 /// `why`: a report of a filter on a capture.
@@ -24,7 +25,7 @@ use std::alloc::{AllocError, Global};
 pub struct WhyJob {
     /// The name of the filter's file.
     pub filter: String,
-    /// The name of the capture; without one, or with `-`, it is the standard input.
+    /// The name of the capture's file; without one it is the standard input.
     pub capture: Option<String>,
     pub asked: ReportAsked,
 }
@@ -35,9 +36,6 @@ pub enum Request {
     Job(Job),
     Why(WhyJob),
 }
-
-/// What is to stand for a `PACKET`.
-const PACKETS: &str = "N, N-M or N- expected, counted from 1";
 
 /// Where the first byte of a kind stands.
 pub(crate) fn position_of(word: &[u8], sign: u8) -> Option<usize>
@@ -149,7 +147,7 @@ fn value_number(word: &[u8]) -> Result<u32, ValueFault>
 
 /// Sets the value of an extension.
 fn set_number(values: &mut Values, e: Ext, number: &[u8]) -> Result<(), ValueFault>
-    ensures { spec.Sets values.old values.new result (spec.taken e (spec.number_by (numeral_value number.now))) }
+    ensures { spec.Sets values.old values.new result (spec.value_for e (spec.number_by (numeral_value number.now))) }
 {
     if values.set(e, value_number(number)?) {
         Ok(())
@@ -215,14 +213,27 @@ fn ranges_named(alloc: Global, words: &[String]) -> Result<Vec<PacketRange>, Nam
     Ok(ranges)
 }
 
-/// The packets that words name, sorted.
+/// Puts all packets into a list of ranges that is empty.
+fn put_all<'a>(ranges: &mut Vec<PacketRange>) -> Result<(), NamesFault<'a>>
+    ensures all { OnOk result (ranges.new.items ≡ spec.or_all ranges.old.items) }
+    ensures fault { IfErr result (λ e. e ≡ names.Memory) }
+{
+    if ranges.is_empty() && ranges.push(ALL_PACKETS).is_err() {
+        return Err(NamesFault::Memory);
+    }
+    Ok(())
+}
+
+/// The packets that words name, sorted; all, where there are no words.
 fn ranges_of(alloc: Global, words: &[String]) -> Result<Vec<PacketRange>, NamesFault<'_>>
     ensures { MatchResult result
         (λ ranges. (spec.no_packets (map text_of words.now) ≡ None)
-        × IsPermutation (filter_map spec.packet_range (map text_of words.now)) ranges.items × AreSorted ranges.items)
+        × IsPermutation (spec.or_all (filter_map spec.packet_range (map text_of words.now))) ranges.items
+        × AreSorted ranges.items)
         (spec.IsNamesFault (map text_of words.now)) }
 {
     let mut ranges = ranges_named(alloc, words)?;
+    put_all(&mut ranges)?;
     match ranges.sort() {
         Ok(()) => Ok(ranges),
         Err(_) => Err(NamesFault::Memory),
@@ -241,13 +252,44 @@ fn refusal_text(
     format!(in alloc; "invalid value '{word}' for '{argument}': {reason}")
 }
 
-/// The refusal of a word that was given for an argument.
-fn refused(alloc: Global, word: &str, argument: &str, reason: &str) -> LineFault
+/// The refusal of a word that gives no value.
+fn value_refusal(alloc: Global, word: &str, fault: ValueFault) -> Result<String, AllocError>
+    ensures { IfOk result (λ text. text_of text ≡ spec.value_refusal word.now fault) }
+{
+    refusal_text(alloc, word, "-v <EXT=N>", value_reason(fault))
+}
+
+/// The refusal of a word that names no packets.
+fn packets_refusal(alloc: Global, word: &str) -> Result<String, AllocError>
+    ensures { IfOk result (λ text. text_of text ≡ spec.packets_refusal word.now) }
+{
+    refusal_text(
+        alloc,
+        word,
+        "[PACKET]...",
+        "N, N-M or N- expected, counted from 1",
+    )
+}
+
+/// A refusal as the fault of a command line, whose text clap makes of it.
+fn refused(alloc: Global, text: Result<String, AllocError>) -> LineFault
     ensures { IsFaultOf word_faults result }
 {
-    match refusal_text(alloc, word, argument, reason) {
+    match text {
         Ok(text) => refused_word(alloc, text.as_str()),
         Err(_) => LineFault::Memory,
+    }
+}
+
+/// The name of the capture's file, where it is not the standard input.
+fn file_of(capture: Option<String>) -> Option<String>
+    ensures { option_map (λ n. string_bytes n) result ≡ spec.file_name (option_map (λ n. string_bytes n) capture) }
+{
+    let name = capture?;
+    if name.as_str() == "-" {
+        None
+    } else {
+        Some(name)
     }
 }
 
@@ -272,7 +314,7 @@ fn values_asked(alloc: Global, words: &[String]) -> Result<Values, LineFault>
 {
     match values_of(words) {
         Ok(values) => Ok(values),
-        Err((word, fault)) => Err(refused(alloc, word, "-v <EXT=N>", value_reason(fault))),
+        Err((word, fault)) => Err(refused(alloc, value_refusal(alloc, word, fault))),
     }
 }
 
@@ -280,12 +322,13 @@ fn values_asked(alloc: Global, words: &[String]) -> Result<Values, LineFault>
 fn ranges_asked(alloc: Global, words: &[String]) -> Result<Vec<PacketRange>, LineFault>
     ensures { MatchResult result
         (λ ranges. (spec.no_packets (map text_of words.now) ≡ None)
-        × IsPermutation (filter_map spec.packet_range (map text_of words.now)) ranges.items × AreSorted ranges.items)
+        × IsPermutation (spec.or_all (filter_map spec.packet_range (map text_of words.now))) ranges.items
+        × AreSorted ranges.items)
         (IsFaultOf (spec.refused_by (spec.no_packets (map text_of words.now)))) }
 {
     match ranges_of(alloc, words) {
         Ok(ranges) => Ok(ranges),
-        Err(NamesFault::Refused(word)) => Err(refused(alloc, word, "[PACKET]...", PACKETS)),
+        Err(NamesFault::Refused(word)) => Err(refused(alloc, packets_refusal(alloc, word))),
         Err(NamesFault::Memory) => Err(LineFault::Memory),
     }
 }
@@ -301,7 +344,7 @@ fn why_of(alloc: Global, words: WhyWords) -> Result<WhyJob, LineFault>
     let report = report_of(words.detail, !words.packets.is_empty());
     Ok(WhyJob {
         filter: words.filter,
-        capture: words.capture,
+        capture: file_of(words.capture),
         asked: ReportAsked {
             report,
             values,

@@ -11,6 +11,9 @@ use cbpf_code::Line;
 /// The most bytes of a line that are shown.
 const SHOWN: usize = 60;
 
+/// The bytes that are shown before the one in question, where as many follow as are shown at most.
+const BEFORE: usize = 20;
+
 /// What stands after a text's first newline.
 fn after_newline(text: &[u8]) -> &[u8]
     ensures { result.now ≡ spec.after_newline text.now }
@@ -74,29 +77,57 @@ fn prepend_all_shown(line: &mut Line, bytes: &[u8])
     }
 }
 
-/// Puts dots where not all of a line is shown.
-fn prepend_dots(line: &mut Line, bytes: &[u8])
+/// Puts dots where a line is cut.
+fn prepend_dots(line: &mut Line, is_cut: bool)
     requires room { length line.old + 3 ≤ LINE_SIZE }
-    ensures text { line.new ≡ spec.dots bytes.now ++ line.old }
+    ensures text { line.new ≡ spec.dots is_cut ++ line.old }
     ensures grown { length line.new ≤ length line.old + 3 }
 {
-    if bytes.len() > SHOWN {
+    if is_cut {
         line.prepend(b"...");
     }
 }
 
-/// The line of this number, as it is shown: after four blanks, with its newline. An empty line is not.
-pub(crate) fn shown_line(text: &[u8], number: u64) -> Line
-    ensures { result ≡ spec.shown_line (spec.line_at text.now number) }
+/// Where the part of a line begins that is shown.
+fn shown_from(bytes: &[u8], place: usize) -> usize
+    ensures from { result ≡ spec.shown_from bytes.now place }
+    ensures within { result ≤ length bytes.now }
 {
-    let bytes = before_newline(from_line(text, number));
+    place
+        .saturating_sub(BEFORE)
+        .min(bytes.len().saturating_sub(SHOWN))
+}
+
+/// The part of a line from this place on.
+fn shown_part(bytes: &[u8], from: usize) -> Line
+    requires within { from ≤ length bytes.now }
+    ensures { result ≡ spec.shown_part bytes.now from }
+{
+    let rest = &bytes[from..];
     let mut line = Line::new();
-    if bytes.is_empty() {
-        return line;
-    }
     line.prepend(b"\n");
-    prepend_dots(&mut line, bytes);
-    prepend_all_shown(&mut line, &bytes[..bytes.len().min(SHOWN)]);
+    prepend_dots(&mut line, rest.len() > SHOWN);
+    prepend_all_shown(&mut line, &rest[..rest.len().min(SHOWN)]);
+    prepend_dots(&mut line, from > 0);
     line.prepend(b"    ");
     line
+}
+
+/// How many bytes of the line of this number stand before a position of the text.
+fn column(text: &[u8], number: u64, at: usize) -> usize
+    ensures { result ≡ spec.column text.now number at }
+{
+    from_line(&text[..at.min(text.len())], number).len()
+}
+
+/// The line of this number, as it is shown: after four blanks, with its newline. Where it is long, it is cut before and
+/// after this position of the text. An empty line is not shown.
+pub(crate) fn shown_line(text: &[u8], number: u64, at: usize) -> Line
+    ensures { result ≡ spec.shown_line (spec.line_at text.now number) (spec.column text.now number at) }
+{
+    let bytes = before_newline(from_line(text, number));
+    if bytes.is_empty() {
+        return Line::new();
+    }
+    shown_part(bytes, shown_from(bytes, column(text, number, at)))
 }

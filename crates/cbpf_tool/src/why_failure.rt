@@ -88,14 +88,13 @@ pub(crate) fn reported(
     name: Option<String>,
     link: u32,
 ) -> Result<Remarks, WhyFailure>
-    ensures { spec.IsReported asked.report asked.packets.items (option_map (λ n. string_bytes n) name) link done result }
+    ensures { spec.IsReported asked (option_map (λ n. string_bytes n) name) link done result }
 {
     match done {
         Ok(end) => Ok(Remarks {
             capture: name,
             link,
-            report: asked.report,
-            packets: asked.packets,
+            asked,
             end,
         }),
         Err(fault) => Err(report_failure(fault, name)),

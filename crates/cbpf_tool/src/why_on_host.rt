@@ -3,7 +3,7 @@
 ghost use Rattle.std.specs.Prelude.{◌≡◌, ℕ, List, Some, None, IsTrue, string_bytes};
 ghost use Rattle.std.specs.Option.{option_map};
 ghost use Rattle.pcap_classic.specs.Savefile.{Savefile};
-ghost use Rattle.cbpf_why.specs.Reports.{IsWithin};
+ghost use Rattle.cbpf_why.specs.Reports.{ReadsWithin};
 ghost use Rattle.cbpf_tool.specs.Hosted.{IsReady};
 ghost use Rattle.cbpf_tool.specs.WhyJobs as spec;
 
@@ -17,10 +17,10 @@ use crate::report_asked::ReportAsked;
 use crate::request::WhyJob;
 use crate::why_failure::{WhyFailure, failed, read_failure, reported};
 use cbpf_code::Program;
-use cbpf_why::{FilterFault, Question, program_of, why};
+use cbpf_why::{CaptureEnd, FilterFault, Question, WhyFault, program_of, why};
 use pcap_classic::{CaptureReader, OpenFault, ReadFault};
 use std::alloc::Allocator;
-use std::io::Read;
+use std::io::{Read, Write};
 
 /// The filter that a file holds.
 #[tactic(auto, using(crate::proofs::WhyLemmas::hinted))]
@@ -78,32 +78,49 @@ fn open_failure(fault: OpenFault, name: Option<String>) -> WhyFailure
     }
 }
 
-/// Writes a report on the capture of this name to the standard output.
-fn print_report<A: Allocator + Copy, P: Allocator, H: Host, R: Read>(
+/// Writes a report on a capture, of which no record was read yet.
+fn write_report<A: Allocator + Copy, P: Allocator, R: Read, W: Write>(
     alloc: A,
-    host: &mut H,
     program: &Program<P>,
-    asked: ReportAsked,
+    asked: &ReportAsked,
     reader: &mut CaptureReader<R, A>,
-    name: Option<String>,
-) -> Result<Remarks, WhyFailure>
+    w: &mut W,
+) -> Result<Option<CaptureEnd>, WhyFault>
     requires count { reader.old.count ≡ 0 }
-    ensures report { IsReady (H.view host.old) → (c : Savefile) → reader.old.left ≡ Some c →
-        spec.PrintsReport (H.view host.old) (H.view host.new) (spec.query_of program.now asked)
-        (option_map (λ n. string_bytes n) name) c result }
-    ensures within { IsWithin asked.packets.items reader.new.count }
+    ensures reported { (c : Savefile) → reader.old.left ≡ Some c →
+        spec.IsReportOf program.now asked.now c reader.new.count (W.contents w.old) (W.contents w.new) result }
+    ensures within { ReadsWithin asked.now.packets.items reader.new.count }
 {
-    let Ok(mut writer) = host.output() else {
-        return Err(failed(ToolFault::Memory));
-    };
     let question = Question {
         program,
         values: &asked.values,
         report: asked.report,
         packets: &asked.packets,
     };
+    why(alloc, &question, reader, w)
+}
+
+/// Writes a report on the capture of this name to the standard output.
+// It takes the reader itself, so that no caller reads on after the report.
+fn print_report<A: Allocator + Copy, P: Allocator, H: Host, R: Read + Drop>(
+    alloc: A,
+    host: &mut H,
+    program: &Program<P>,
+    asked: ReportAsked,
+    reader: CaptureReader<R, A>,
+    name: Option<String>,
+) -> Result<Remarks, WhyFailure>
+    requires count { reader.count ≡ 0 }
+    ensures { IsReady (H.view host.old) → (c : Savefile) → reader.left ≡ Some c →
+        spec.PrintsReport (H.view host.old) (H.view host.new) program.now asked
+        (option_map (λ n. string_bytes n) name) c result }
+{
+    let Ok(mut writer) = host.output() else {
+        return Err(failed(ToolFault::Memory));
+    };
+    let mut reader = reader;
     let link = reader.link();
-    let done = why(alloc, &question, reader, &mut writer);
+    let done = write_report(alloc, program, &asked, &mut reader, &mut writer);
     host.print(writer);
     reported(done, asked, name, link)
 }
@@ -118,14 +135,11 @@ fn report_on<A: Allocator + Copy, P: Allocator, H: Host, R: Read + Drop>(
     name: Option<String>,
 ) -> Result<Remarks, WhyFailure>
     ensures { IsReady (H.view host.old) → (bytes : List ℕ) → R.remaining reader ≡ Some bytes →
-        spec.ReportsOn (H.view host.old) (H.view host.new) (spec.query_of program.now asked)
+        spec.ReportsOn (H.view host.old) (H.view host.new) program.now asked
         (option_map (λ n. string_bytes n) name) bytes result }
 {
     match CaptureReader::new(alloc, reader) {
-        Ok(capture) => {
-            let mut capture = capture;
-            print_report(alloc, host, program, asked, &mut capture, name)
-        }
+        Ok(capture) => print_report(alloc, host, program, asked, capture, name),
         Err(fault) => Err(open_failure(fault, name)),
     }
 }
@@ -138,7 +152,7 @@ fn report_on_input<A: Allocator + Copy, P: Allocator, H: Host>(
     asked: ReportAsked,
 ) -> Result<Remarks, WhyFailure>
     ensures { IsReady (H.view host.old) →
-        spec.ReportsBy (H.view host.old) (H.view host.new) (spec.query_of program.now asked) None result }
+        spec.ReportsBy (H.view host.old) (H.view host.new) program.now asked None result }
 {
     let input = host.input();
     report_on(alloc, host, program, asked, input, None)
@@ -153,24 +167,11 @@ fn report_on_file<A: Allocator + Copy, P: Allocator, H: Host>(
     name: String,
 ) -> Result<Remarks, WhyFailure>
     ensures { IsReady (H.view host.old) → spec.ReportsBy (H.view host.old) (H.view host.new)
-        (spec.query_of program.now asked) (Some (string_bytes name)) result }
+        program.now asked (Some (string_bytes name)) result }
 {
     match host.open(name.as_str()) {
         Ok(source) => report_on(alloc, host, program, asked, source, Some(name)),
         Err(_) => Err(WhyFailure::Job(Failure::CannotOpen(name))),
-    }
-}
-
-/// The name of the capture's file, where it is not the standard input.
-fn file_of(capture: Option<String>) -> Option<String>
-    ensures { option_map (λ n. string_bytes n) result
-        ≡ spec.file_name (option_map (λ n. string_bytes n) capture) }
-{
-    let name = capture?;
-    if name.as_str() == "-" {
-        None
-    } else {
-        Some(name)
     }
 }
 
@@ -183,9 +184,9 @@ fn report_by_name<A: Allocator + Copy, P: Allocator, H: Host>(
     capture: Option<String>,
 ) -> Result<Remarks, WhyFailure>
     ensures { IsReady (H.view host.old) → spec.ReportsBy (H.view host.old) (H.view host.new)
-        (spec.query_of program.now asked) (spec.file_name (option_map (λ n. string_bytes n) capture)) result }
+        program.now asked (option_map (λ n. string_bytes n) capture) result }
 {
-    match file_of(capture) {
+    match capture {
         Some(name) => report_on_file(alloc, host, program, asked, name),
         None => report_on_input(alloc, host, program, asked),
     }

@@ -17,7 +17,7 @@ use Rattle.cbpf_machine.specs.Registers.{Registers}
 use Rattle.cbpf_machine.specs.Trace.{trace}
 use Rattle.cbpf_machine.proofs.TurnLemmas.{jumps}
 use Rattle.pcap_classic.specs.Records.{Record}
-use Rattle.cbpf_why.specs.Ends.{alone, alone_of, ended, is_verdict, verdict_of}
+use Rattle.cbpf_why.specs.Ends.{only_ended, only_ended_of, ended, is_verdict, verdict_of}
 use Rattle.cbpf_why.specs.Graph.{Edge, begins_block, block_of, edges_by, ended_in, facts_at, is_last, opened_by}
 use Rattle.cbpf_why.specs.Groups.{group, is_in_group}
 use Rattle.cbpf_why.specs.Laws.{BlocksSum, EdgesLead, LeadsToBlock, edges_at, ended_in_block, sum_of_first}
@@ -80,15 +80,15 @@ at_most a b c e l = omega (arith, e, l)
 
 module _ (m : Machine) (sound : IsSound m.list) where
   -- the packets of the three groups of an instruction are those that ended there
-  ended_are : (i : ℕ) (records : List Record) → ended_in (facts_at m records (alone_of m records) i)
+  ended_are : (i : ℕ) (records : List Record) → ended_in (facts_at m records (only_ended_of m records) i)
       ≡ sum_by (λ r. if nat_eq (ended m r).pc i then 1 else 0) records
   ended_are i [] = refl
   ended_are i (r ∷ rs) =
-      let d = alone m r in
-      let before : ℕ = ended_in (facts_at m rs (alone_of m rs) i) in
-      three_more _ _ _ _ _ _ _ _ _ (longer (is_in_group (2 * i) Pass d) d (group (alone_of m rs) (2 * i) Pass))
-      (longer (is_in_group (2 * i) Fail d) d (group (alone_of m rs) (2 * i) Fail))
-      (longer (is_in_group (2 * i) Unknown d) d (group (alone_of m rs) (2 * i) Unknown))
+      let d = only_ended m r in
+      let before : ℕ = ended_in (facts_at m rs (only_ended_of m rs) i) in
+      three_more _ _ _ _ _ _ _ _ _ (longer (is_in_group (2 * i) Pass d) d (group (only_ended_of m rs) (2 * i) Pass))
+      (longer (is_in_group (2 * i) Fail d) d (group (only_ended_of m rs) (2 * i) Fail))
+      (longer (is_in_group (2 * i) Unknown d) d (group (only_ended_of m rs) (2 * i) Unknown))
       ∙ ap (λ (n : ℕ). n + before)
       (one_verdict (2 * (ended m r).pc == 2 * i) (verdict_of (ended m r).reason)
       ∙ ap (λ b. if b then 1 else 0) (same_row (ended m r).pc i))
@@ -96,14 +96,14 @@ module _ (m : Machine) (sound : IsSound m.list) where
       ∙ sym (sum_by-cons (λ x. if nat_eq (ended m x).pc i then 1 else 0) r rs)
 
   runs_go_on : (i : ℕ) (records : List Record) → begins_block m.list (i + 1) ≡ false
-      → executed m records i ≡ ended_in (facts_at m records (alone_of m records) i) + executed m records (i + 1)
+      → executed m records i ≡ ended_in (facts_at m records (only_ended_of m records) i) + executed m records (i + 1)
   runs_go_on i records plain =
       sums_add (λ r. executed_in (trace m r.bytes r.wire) i) (λ r. if nat_eq (ended m r).pc i then 1 else 0)
       (λ r. executed_in (trace m r.bytes r.wire) (i + 1)) (λ r. block_goes_on (on m r) sound i plain) records
       ∙ ap (λ (n : ℕ). n + executed m records (i + 1)) (sym (ended_are i records))
 
   few_ended : (i : ℕ) (records : List Record)
-      → ended_in (facts_at m records (alone_of m records) i) ≤ executed m records i
+      → ended_in (facts_at m records (only_ended_of m records) i) ≤ executed m records i
   few_ended i records =
       at_most _ _ _ (ended_are i records)
       (sums_le (λ r. if nat_eq (ended m r).pc i then 1 else 0) (λ r. executed_in (trace m r.bytes r.wire) i)
@@ -115,13 +115,13 @@ module _ (m : Machine) (sound : IsSound m.list) where
       (λ r. taken_less m.list i (trace m r.bytes r.wire)) records
 
   jump_keeps : (i : ℕ) (records : List Record) (f : Found m.list i) → jumps f.op ≡ true
-      → ended_in (facts_at m records (alone_of m records) i) ≡ 0
+      → ended_in (facts_at m records (only_ended_of m records) i) ≡ 0
   jump_keeps i records f j =
       ended_are i records
       ∙ sums_none (λ r. if nat_eq (ended m r).pc i then 1 else 0) (λ r. none_ended (on m r) sound i f j) records
 
   return_ends : (i : ℕ) (records : List Record) (f : Found m.list i) → returns f.op ≡ true
-      → executed m records i ≡ ended_in (facts_at m records (alone_of m records) i)
+      → executed m records i ≡ ended_in (facts_at m records (only_ended_of m records) i)
   return_ends i records f r =
       sums_same (λ x. executed_in (trace m x.bytes x.wire) i) (λ x. if nat_eq (ended m x).pc i then 1 else 0)
       (λ x. all_ended (on m x) sound i f r) records
@@ -171,10 +171,10 @@ go_out a s r out e all h k l = omega (arith, h, k, l)
 module _ (m : Machine) (sound : IsSound m.list) (records : List Record) where
   -- the packets that ended in a block up to its instruction i
   ended_more : (i : ℕ) → sum_of_first (ended_in_block m records (block_of m.list i)) (suc i)
-      ≡ sum_of_first (ended_in_block m records (block_of m.list i)) i + ended_in (facts_at m records (alone_of m records) i)
+      ≡ sum_of_first (ended_in_block m records (block_of m.list i)) i + ended_in (facts_at m records (only_ended_of m records) i)
   ended_more i =
       ap (λ (n : ℕ). sum_of_first (ended_in_block m records (block_of m.list i)) i + n)
-      (same_block (block_of m.list i) (ended_in (facts_at m records (alone_of m records) i)))
+      (same_block (block_of m.list i) (ended_in (facts_at m records (only_ended_of m records) i)))
 
   -- a packet that comes into a block comes to its instruction i, or ended before
   runs_so_far : (i : ℕ) → executed m records (block_of m.list i)
@@ -216,13 +216,13 @@ module _ (m : Machine) (sound : IsSound m.list) (records : List Record) where
       omega (arith, past, below, h)))
 
 edges_known : (m : Machine) (records : List Record) (i : ℕ) (f : Found m.list i)
-    → edges_at m records i ≡ edges_by i f.insn (facts_at m records (alone_of m records) i) (Some f.op)
+    → edges_at m records i ≡ edges_by i f.insn (facts_at m records (only_ended_of m records) i) (Some f.op)
 edges_known m records i f = rw (f.here, f.decodes) refl
 
 pub blocks_sum : BlocksSum
 blocks_sum m sound records i inside last =
     let f = find m.list i sound inside in
-    let facts : Facts = facts_at m records (alone_of m records) i in
+    let facts : Facts = facts_at m records (only_ended_of m records) i in
     let out = balance f.op i f.insn facts (few_taken m sound i records) (few_ended m sound i records)
     (jump_keeps m sound i records f) (return_ends m sound i records f) in
     let edges = ap (λ es. sum_by (λ (e : Edge). e.count) es + ended_in facts) (sym (edges_known m records i f)) in
@@ -251,6 +251,6 @@ pub edges_lead : EdgesLead
 edges_lead m sound records i inside last =
     let f = find m.list i sound inside in
     rw (edges_known m records i f)
-    (All-from_recursion _ _ (leads_by m.list i f.insn f.op (facts_at m records (alone_of m records) i)
+    (All-from_recursion _ _ (leads_by m.list i f.insn f.op (facts_at m records (only_ended_of m records) i)
     (sound_next m.list i f.insn f.op sound f.here f.decodes) (λ to h. begun m.list i to f.insn f.op f.here f.decodes h)
     (λ l. after_last (i + 1) (length m.list) (begins_block m.list (i + 1)) last l)))

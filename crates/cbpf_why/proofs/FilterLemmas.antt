@@ -16,13 +16,13 @@ source_read text list h s = rw h s
 
 pub words_refused : (text : List ℕ) (e : FilterFault) → are_words text ≡ true → IsWordsFault (word_text_of text) e
     → IsNoFilter text e
-words_refused text (Source f) h s = absurd s
+words_refused text (Source f at) h s = absurd s
 words_refused text (Words f) h s = (h, s)
 words_refused text (Check f) h s = absurd s
 words_refused text Memory h s = tt
 
 pub source_refused : (text : List ℕ) (e : FilterFault) → are_words text ≡ false → IsSourceFault text e → IsNoFilter text e
-source_refused text (Source f) h s = (h, s)
+source_refused text (Source f at) h s = (h, s)
 source_refused text (Words f) h s = absurd s
 source_refused text (Check f) h s = absurd s
 source_refused text Memory h s = tt

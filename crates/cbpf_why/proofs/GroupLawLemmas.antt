@@ -9,11 +9,11 @@ use Rattle.cbpf_machine.specs.OnPacket.{OnPacket, trace_in}
 use Rattle.cbpf_machine.specs.Choices.{last_choice}
 use Rattle.cbpf_machine.specs.declared.follow.Choice.{Choice}
 use Rattle.pcap_classic.specs.Records.{Record}
-use Rattle.cbpf_why.specs.declared.ended.Decided.{Decided}
+use Rattle.cbpf_why.specs.declared.ended.EndedBy.{EndedBy}
 use Rattle.cbpf_why.specs.declared.ended.Verdict.{Verdict}
 use Rattle.cbpf_why.specs.declared.ended.Verdict.TheVariants.{Pass, Fail, Unknown}
 use Rattle.cbpf_why.specs.Ends.{decided, decided_of, ended, ends_of, is_verdict, verdict_of}
-use Rattle.cbpf_why.specs.Groups.{IsInside, count_of, group, is_in_group, row}
+use Rattle.cbpf_why.specs.Groups.{HasRow, ended_with, group, is_in_group, row}
 use Rattle.cbpf_why.specs.Laws.{EachInOneGroup, GroupsEndAlike, GroupsSumToTotals, sum_of_first}
 use Rattle.cbpf_why.proofs.GroupLemmas.{row_inside, same_verdict}
 use Rattle.cbpf_why.proofs.StepLemmas.{choice_inside, deciding_inside, last_inside}
@@ -40,7 +40,7 @@ row_is n i h = grind arith
 pub itself : (n : ℕ) → (n == n) ≡ true
 itself n = grind arith
 
-decided_inside : (m : Machine) → IsSound m.list → (r : Record) → IsInside (length m.list) (decided m r)
+decided_inside : (m : Machine) → IsSound m.list → (r : Record) → HasRow (length m.list) (decided m r)
 decided_inside m sound r =
     let t : OnPacket = record { machine = m; bytes = r.bytes; wire = r.wire } in
     record {
@@ -104,7 +104,7 @@ sum_one k (suc n) b l =
           rw (rest, last) (omega arith)
     ]
 
-pub longer : (b : Bool) (x : Decided) (ys : List Decided) → length (if b then x ∷ ys else ys) ≡ (if b then 1 else 0) + length ys
+pub longer : (b : Bool) (x : EndedBy) (ys : List EndedBy) → length (if b then x ∷ ys else ys) ≡ (if b then 1 else 0) + length ys
 longer true x ys = omega arith
 longer false x ys = omega arith
 
@@ -112,7 +112,7 @@ pub groups_sum : GroupsSumToTotals
 groups_sum m sound records v = sums records
   where
     sums : (records : List Record) → sum_of_first (λ i. length (group (decided_of m records) i v)) (2 * length m.list)
-        ≡ count_of (ends_of m records) v
+        ≡ ended_with (ends_of m records) v
     sums [] = sum_zero (λ i. 0) (2 * length m.list) (λ i l. refl)
     sums (r ∷ rs) =
         let d = decided m r in

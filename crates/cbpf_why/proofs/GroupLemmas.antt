@@ -7,20 +7,20 @@ use Rattle.std.proofs.lemmas.List.{get_or-set_other, length-set}
 use Rattle.std.proofs.lemmas.Grind.{get_or-set_at}
 use Rattle.std.proofs.lemmas.Option.{slice_get-get_or, get_or_from_slice_get}
 use Rattle.cbpf_machine.specs.declared.follow.Choice.{Choice}
-use Rattle.cbpf_why.specs.declared.ended.Decided.{Decided}
+use Rattle.cbpf_why.specs.declared.ended.EndedBy.{EndedBy}
 use Rattle.cbpf_why.specs.declared.ended.Verdict.{Verdict}
 use Rattle.cbpf_why.specs.declared.ended.Verdict.TheVariants.{Pass, Fail, Unknown}
 use Rattle.cbpf_why.specs.declared.groups.Group.{Group}
 use Rattle.cbpf_why.specs.Ends.{is_verdict, verdict_of}
-use Rattle.cbpf_why.specs.Groups.{AllKept, AreGroups, IsInside, KeepsAll, by_verdict, counted_of, is_in_group, group, group_kept, row, row_by, with_one}
+use Rattle.cbpf_why.specs.Groups.{AllKept, AreGroups, HasRow, KeepsAll, by_verdict, counted_of, is_in_group, group, group_kept, row, row_by, with_one}
 
-first_of : (q : Decided → Type 0) (b : Bool) (x : Decided) (ys : List Decided) → q x → IfSome (slice_get ys 0) q
+first_of : (q : EndedBy → Type 0) (b : Bool) (x : EndedBy) (ys : List EndedBy) → q x → IfSome (slice_get ys 0) q
     → IfSome (slice_get (if b then x ∷ ys else ys) 0) q
 first_of q true x ys e h = e
 first_of q false x ys e h = h
 
 -- what holds of all packets holds of the first of a group
-pub first_all : (p : Decided → Bool) (q : Decided → Type 0) (xs : List Decided) → All q xs → IfSome (slice_get (filter p xs) 0) q
+pub first_all : (p : EndedBy → Bool) (q : EndedBy → Type 0) (xs : List EndedBy) → All q xs → IfSome (slice_get (filter p xs) 0) q
 first_all p q [] h = tt
 first_all p q (x ∷ xs) h = first_of q (p x) x (filter p xs) (All-head q x xs h) (first_all p q xs (All-tail q x xs h))
 
@@ -30,19 +30,19 @@ same_verdict Fail = refl
 same_verdict Unknown = refl
 
 -- a packet more, in a list that holds of it or doesn't
-filter-yes : (p : Decided → Bool) (xs : List Decided) (e : Decided) → p e ≡ true → filter p (xs ++ e ∷ []) ≡ filter p xs ++ e ∷ []
+filter-yes : (p : EndedBy → Bool) (xs : List EndedBy) (e : EndedBy) → p e ≡ true → filter p (xs ++ e ∷ []) ≡ filter p xs ++ e ∷ []
 filter-yes p xs e h = filter-append p xs (e ∷ []) ∙ ap (λ b. filter p xs ++ (if b then e ∷ [] else [])) h
 
-filter-no : (p : Decided → Bool) (xs : List Decided) (e : Decided) → p e ≡ false → filter p (xs ++ e ∷ []) ≡ filter p xs
+filter-no : (p : EndedBy → Bool) (xs : List EndedBy) (e : EndedBy) → p e ≡ false → filter p (xs ++ e ∷ []) ≡ filter p xs
 filter-no p xs e h = filter-append p xs (e ∷ []) ∙ ap (λ b. filter p xs ++ (if b then e ∷ [] else [])) h ∙ append-nil (filter p xs)
 
-kept-more : (xs : List Decided) (e : Decided) → group_kept (xs ++ e ∷ []) ≡ with_one (group_kept xs) e
+kept-more : (xs : List EndedBy) (e : EndedBy) → group_kept (xs ++ e ∷ []) ≡ with_one (group_kept xs) e
 kept-more [] e = refl
 kept-more (x ∷ xs) e =
     let long : length (x ∷ (xs ++ e ∷ [])) ≡ length (x ∷ xs) + 1 = omega (arith, length-append xs (e ∷ [])) in
     ap (λ n. record { count = n; first = Some x }) long
 
-module _ (ends : List Decided) (e : Decided) (v : Verdict) (gs : List Group) (d : Group) (same : v ≡ verdict_of e.ended.reason)
+module _ (ends : List EndedBy) (e : EndedBy) (v : Verdict) (gs : List Group) (d : Group) (same : v ≡ verdict_of e.ended.reason)
     (are : AreGroups ends v gs) (within : row e < length gs) where
   more_at : (i : ℕ) (b : Bool) → (row e == i) ≡ b → i < length gs
       → slice_get (slice_set gs (row e) (with_one (get_or gs (row e) d) e)) i ≡ Some (group_kept (group (ends ++ e ∷ []) i v))
@@ -68,7 +68,7 @@ module _ (ends : List Decided) (e : Decided) (v : Verdict) (gs : List Group) (d 
   groups-more i inside = more_at i (row e == i) refl (rw (length-set gs (row e) (with_one (get_or gs (row e) d) e)) at inside)
 
 -- the groups of another way stay
-pub groups-others : (ends : List Decided) (e : Decided) (v : Verdict) (gs : List Group) → is_verdict v (verdict_of e.ended.reason) ≡ false
+pub groups-others : (ends : List EndedBy) (e : EndedBy) (v : Verdict) (gs : List Group) → is_verdict v (verdict_of e.ended.reason) ≡ false
     → AreGroups ends v gs → AreGroups (ends ++ e ∷ []) v gs
 groups-others ends e v gs other are i inside =
     let fails : is_in_group i v e ≡ false = and_no (row e == i) other in
@@ -79,7 +79,7 @@ groups-others ends e v gs other are i inside =
     and_no false h = refl
 
 -- a group has at most as many packets as there are
-pub group_count : (ends : List Decided) (v : Verdict) (gs : List Group) (d : Group) (i : ℕ) → AreGroups ends v gs → i < length gs
+pub group_count : (ends : List EndedBy) (v : Verdict) (gs : List Group) (d : Group) (i : ℕ) → AreGroups ends v gs → i < length gs
     → (get_or gs i d).count < length ends + 1
 group_count ends v gs d i are inside =
     let is : get_or gs i d ≡ group_kept (group ends i v) = get_or_from_slice_get gs i _ d (are i inside) in
@@ -87,21 +87,21 @@ group_count ends v gs d i are inside =
 
 -- ---- all groups
 
-count-yes : (v : Verdict) (ends : List Decided) (e : Decided) → is_verdict v (verdict_of e.ended.reason) ≡ true
+count-yes : (v : Verdict) (ends : List EndedBy) (e : EndedBy) → is_verdict v (verdict_of e.ended.reason) ≡ true
     → counted_of (ends ++ e ∷ []) v ≡ counted_of ends v + 1
 count-yes v ends e h =
-    let p = λ (x : Decided). is_verdict v (verdict_of x.ended.reason) in
+    let p = λ (x : EndedBy). is_verdict v (verdict_of x.ended.reason) in
     sym (length-filter p (ends ++ e ∷ [])) ∙ ap length (filter-yes p ends e h)
     ∙ length-append (filter p ends) (e ∷ []) ∙ ap (λ n. n + 1) (length-filter p ends)
 
-count-no : (v : Verdict) (ends : List Decided) (e : Decided) → is_verdict v (verdict_of e.ended.reason) ≡ false
+count-no : (v : Verdict) (ends : List EndedBy) (e : EndedBy) → is_verdict v (verdict_of e.ended.reason) ≡ false
     → counted_of (ends ++ e ∷ []) v ≡ counted_of ends v
 count-no v ends e h =
-    let p = λ (x : Decided). is_verdict v (verdict_of x.ended.reason) in
+    let p = λ (x : EndedBy). is_verdict v (verdict_of x.ended.reason) in
     sym (length-filter p (ends ++ e ∷ [])) ∙ ap length (filter-no p ends e h) ∙ length-filter p ends
 
-module _ (k : AllKept) (added : List Group) (n : ℕ) (ends : List Decided) (e : Decided) (keeps : KeepsAll k n ends)
-    (inside : IsInside n e) where
+module _ (k : AllKept) (added : List Group) (n : ℕ) (ends : List EndedBy) (e : EndedBy) (keeps : KeepsAll k n ends)
+    (inside : HasRow n e) where
   pub keeps_pass : verdict_of e.ended.reason ≡ Pass → AreGroups (ends ++ e ∷ []) (verdict_of e.ended.reason) added
       → length added ≡ length k.passed
       → KeepsAll (record k { passed = added; totals = record k.totals { passes = k.totals.passes + 1 } }) n (ends ++ e ∷ [])
@@ -116,7 +116,7 @@ module _ (k : AllKept) (added : List Group) (n : ℕ) (ends : List Decided) (e :
       | Fail ↦ keeps.long Fail
       | Unknown ↦ keeps.long Unknown
     ];
-    inside = All-push (IsInside n) ends e keeps.inside inside;
+    inside = All-push (HasRow n) ends e keeps.inside inside;
     totals = rw (
       keeps.totals,
       count-yes Pass ends e (rw is refl),
@@ -139,7 +139,7 @@ module _ (k : AllKept) (added : List Group) (n : ℕ) (ends : List Decided) (e :
       | Fail ↦ long ∙ keeps.long Fail
       | Unknown ↦ keeps.long Unknown
     ];
-    inside = All-push (IsInside n) ends e keeps.inside inside;
+    inside = All-push (HasRow n) ends e keeps.inside inside;
     totals = rw (
       keeps.totals,
       count-no Pass ends e (rw is refl),
@@ -162,7 +162,7 @@ module _ (k : AllKept) (added : List Group) (n : ℕ) (ends : List Decided) (e :
       | Fail ↦ keeps.long Fail
       | Unknown ↦ long ∙ keeps.long Unknown
     ];
-    inside = All-push (IsInside n) ends e keeps.inside inside;
+    inside = All-push (HasRow n) ends e keeps.inside inside;
     totals = rw (
       keeps.totals,
       count-no Pass ends e (rw is refl),
@@ -172,18 +172,18 @@ module _ (k : AllKept) (added : List Group) (n : ℕ) (ends : List Decided) (e :
   }
 
 -- what is kept in a row
-pub group_is : (k : AllKept) (n : ℕ) (ends : List Decided) (v : Verdict) (i : ℕ) (g : Group) → KeepsAll k n ends → i < 2 * n
+pub group_is : (k : AllKept) (n : ℕ) (ends : List EndedBy) (v : Verdict) (i : ℕ) (g : Group) → KeepsAll k n ends → i < 2 * n
     → slice_get (by_verdict k v) i ≡ Some g → g ≡ group_kept (group ends i v)
 group_is k n ends v i g keeps inside at =
     let there = keeps.groups v i (rw (keeps.long v) inside) in cc
 
-pub group_inside : (k : AllKept) (n : ℕ) (ends : List Decided) (v : Verdict) (i : ℕ) (g : Group) → KeepsAll k n ends → i < 2 * n
-    → slice_get (by_verdict k v) i ≡ Some g → IfSome g.first (IsInside n)
+pub group_inside : (k : AllKept) (n : ℕ) (ends : List EndedBy) (v : Verdict) (i : ℕ) (g : Group) → KeepsAll k n ends → i < 2 * n
+    → slice_get (by_verdict k v) i ≡ Some g → IfSome g.first (HasRow n)
 group_inside k n ends v i g keeps inside at =
-    rw (group_is k n ends v i g keeps inside at) (first_all (is_in_group i v) (IsInside n) ends keeps.inside)
+    rw (group_is k n ends v i g keeps inside at) (first_all (is_in_group i v) (HasRow n) ends keeps.inside)
 
 -- the row of a packet that ended inside a program
-pub row_inside : (n : ℕ) (d : Decided) → IsInside n d → row d < 2 * n
+pub row_inside : (n : ℕ) (d : EndedBy) → HasRow n d → row d < 2 * n
 row_inside n d inside = by_choice d.by inside.by
   where
     second : (b : Bool) (pc : ℕ) → pc < n → 2 * pc + (if b then 0 else 1) < 2 * n

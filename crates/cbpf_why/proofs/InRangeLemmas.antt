@@ -2,19 +2,19 @@
 use Rattle.std.proofs.Common.{◌≡◌, ℕ, ◌+◌, List, [], ◌∷◌, ◌++◌, length, arith, refl, sym, ap, ◌∙◌, length-append, append_assoc, append-nil, ◌<◌, ◌≤◌, ◌^◌}
 use Rattle.std.specs.Prelude.{true, Option, Some, None, Result, Ok, Err, MatchResult, nat_le, IfSome}
 use Rattle.pcap_classic.specs.Savefile.{Savefile}
-use Rattle.cbpf_why.specs.declared.counted.Counted.{Counted}
+use Rattle.cbpf_why.specs.declared.gathered.Gathered.{Gathered}
 use Rattle.cbpf_why.specs.declared.question.Question.{Question}
 use Rattle.std.proofs.lemmas.List.Sums.{length-filter, count_by-le-length}
 use Rattle.std.proofs.lemmas.Grind.{flat_map-append}
 use Rattle.cbpf_code.proofs.WrittenLemmas.{appended-then, part-then}
 use Rattle.pcap_classic.specs.Records.{Record}
-use Rattle.cbpf_why.specs.Job.{HasCause, Took, TookFromKnown, Going, RangeFault, Ranged, Closed, Stopped, Stepped, StepFault, LeavesKnown, from_first}
+use Rattle.cbpf_why.specs.Taking.{HasCause, HasGathered, TookFromKnown, Going, RangeFault, Ranged, Closed, LeftAfter, Stepped, StepFault, LeavesKnown, from_first}
 use Rattle.cbpf_why.specs.Question.{machine_in}
 use Rattle.cbpf_why.specs.Reports.{packet_text, packets_text}
 use Rattle.cbpf_why.specs.declared.chosen.PacketRange.{PacketRange}
-use Rattle.cbpf_why.specs.declared.job.WhyFault.{WhyFault}
-use Rattle.cbpf_why.specs.declared.job.WhyFault.TheVariants.{Write}
-use Rattle.cbpf_why.specs.declared.job.WhyFault.TheVariants as why
+use Rattle.cbpf_why.specs.declared.reporting.WhyFault.{WhyFault}
+use Rattle.cbpf_why.specs.declared.reporting.WhyFault.TheVariants.{Write}
+use Rattle.cbpf_why.specs.declared.reporting.WhyFault.TheVariants as why
 use Rattle.cbpf_code.specs.Writing.{Appended, Wrote}
 use Rattle.cbpf_code.specs.declared.writing.WriteFault.{WriteFault}
 use Rattle.pcap_classic.specs.Reading.{Reading}
@@ -44,8 +44,8 @@ known_any first (Some s) mid new before after more (r ∷ x ∷ xs) reads leaves
 known_any first (Some s) mid new before after more (r ∷ []) reads leaves e =
     known_more first (Some s) mid new before after more (r ∷ []) reads leaves refl
 
-pub range-starts : {A P : Type 0} (q : Question P) (first : ℕ) (records : List Record) (old : Reading) (c : Counted A)
-    (w : Option (List ℕ)) → Took q c records → length records ≤ old.count → Appended w w []
+pub range-starts : {A P : Type 0} (q : Question P) (first : ℕ) (records : List Record) (old : Reading) (c : Gathered A)
+    (w : Option (List ℕ)) → HasGathered q c records → length records ≤ old.count → Appended w w []
     → Going q first records old old c w w
 range-starts q first records old c w took few nothing = record {
   more = [];
@@ -70,7 +70,7 @@ range-starts q first records old c w took few nothing = record {
     )
 
 pub range-goes : {A P : Type 0} (q : Question P) (first : ℕ) (records : List Record) (old mid new : Reading)
-    (c d : Counted A) (u v w : Option (List ℕ)) (going : Going q first records old mid c u v)
+    (c d : Gathered A) (u v w : Option (List ℕ)) (going : Going q first records old mid c u v)
     → Stepped q first (records ++ going.more) mid new d v w true → Going q first records old new d u w
 range-goes q first records old mid new c d u v w going step = record {
   more = going.more ++ from_first first step.one;
@@ -97,7 +97,7 @@ cause_known why.Memory first None mid new before after more reads h = tt
 cause_known why.Memory first (Some s) mid new before after more reads h = rw reads.1 at h
 
 pub range-fails : {A P : Type 0} (q : Question P) (range : PacketRange) (records : List Record) (old mid new : Reading)
-    (c : Counted A) (u v w : Option (List ℕ)) (fault : WhyFault) → Going q range.first records old mid c u v
+    (c : Gathered A) (u v w : Option (List ℕ)) (fault : WhyFault) → Going q range.first records old mid c u v
     → mid.count < range.last → StepFault q range.first mid new v w fault → RangeFault q range old new u w fault
 range-fails q range records old mid new c u v w fault going below step = record {
   more = going.more ++ from_first range.first step.one;
@@ -109,8 +109,8 @@ range-fails q range records old mid new c u v w fault going below step = record 
       (stopped_more fault u v w (packets_text q.report (machine_in q) going.more) _ going.wrote step.stopped);
 }
   where
-    stopped_more : (e : WhyFault) (u v w : Option (List ℕ)) (a b : List ℕ) → Appended u v a → Stopped e v w b
-        → Stopped e u w (a ++ b)
+    stopped_more : (e : WhyFault) (u v w : Option (List ℕ)) (a b : List ℕ) → Appended u v a → LeftAfter e v w b
+        → LeftAfter e u w (a ++ b)
     stopped_more Write u v w a b x y = part-then u v w a b x y
     stopped_more why.Read u v w a b x y = appended-then u v w a b x y
     stopped_more why.Memory u v w a b x y = appended-then u v w a b x y
@@ -127,9 +127,9 @@ ends_known first (Some s) mid new before after more reads leaves ends =
 
 -- the capture's end in a range
 pub range-ends : {A P : Type 0} (q : Question P) (range : PacketRange) (records : List Record) (old mid new : Reading)
-    (c d : Counted A) (u v w : Option (List ℕ)) (one : List Record)
+    (c d : Gathered A) (u v w : Option (List ℕ)) (one : List Record)
     (going : Going q range.first records old mid c u v) → old.count ≤ mid.count → mid.count ≤ range.last
-    → mid.count < 2 ^ 60 → length one ≡ 0 → Took q d ((records ++ going.more) ++ from_first range.first one) → new.count ≡ mid.count + length one
+    → mid.count < 2 ^ 60 → length one ≡ 0 → HasGathered q d ((records ++ going.more) ++ from_first range.first one) → new.count ≡ mid.count + length one
     → LeavesKnown mid.count mid.left new.left one → IfSome mid.left (λ s. (s.records ≡ []) × (new.ended ≡ Some s.ending))
     → Appended v w (packets_text q.report (machine_in q) (from_first range.first one))
     → Ranged q range records old new d u w

@@ -15,7 +15,7 @@ use Rattle.cbpf_machine.specs.declared.outcome.Turn.TheVariants as turn_is
 use Rattle.cbpf_reply.specs.Counts.{counts_of, outcomes_of}
 use Rattle.pcap_classic.specs.Records.{Record}
 use Rattle.cbpf_why.specs.Ends.{decided, decided_of, end_by, ended, ends_of, is_verdict, kind_of, verdict_of}
-use Rattle.cbpf_why.specs.Groups.{all_totals, counted_of, count_of, totals}
+use Rattle.cbpf_why.specs.Groups.{all_totals, counted_of, ended_with, totals}
 use Rattle.cbpf_why.specs.Laws.{TotalsCountOutcomes, VerdictIsOutcome}
 use Rattle.cbpf_why.specs.declared.ended.Verdict.{Verdict}
 use Rattle.cbpf_why.specs.declared.ended.Verdict.TheVariants.{Pass, Fail, Unknown}
@@ -56,7 +56,7 @@ unknown_is of_packet.Fail = refl
 unknown_is (of_packet.Unknown e) = refl
 
 counted : (m : Machine) (v : Verdict) (q : Outcome → Bool) → ((o : Outcome) → is_verdict v (kind_of o) ≡ q o)
-    → (records : List Record) → count_of (ends_of m records) v ≡ count_by q (outcomes_of m records)
+    → (records : List Record) → ended_with (ends_of m records) v ≡ count_by q (outcomes_of m records)
 counted m v q h records =
     counted_same (λ e. is_verdict v (verdict_of e.reason)) q (ended m) (λ r. outcome m r.bytes r.wire)
     (λ r. ap (is_verdict v) (verdict_is_outcome m r) ∙ h (outcome m r.bytes r.wire)) records
@@ -71,7 +71,7 @@ totals_count_outcomes m records =
     (counted m Unknown is_unknown unknown_is records)
 
 -- the totals that are kept are those of the ends
-counted-is : (m : Machine) (v : Verdict) (records : List Record) → counted_of (decided_of m records) v ≡ count_of (ends_of m records) v
+counted-is : (m : Machine) (v : Verdict) (records : List Record) → counted_of (decided_of m records) v ≡ ended_with (ends_of m records) v
 counted-is m v records =
     counted_same (λ d. is_verdict v (verdict_of d.ended.reason)) (λ e. is_verdict v (verdict_of e.reason)) (decided m) (ended m)
     (λ r. refl) records

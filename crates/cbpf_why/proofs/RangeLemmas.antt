@@ -1,9 +1,9 @@
 -- Packets of ranges, which are taken one range after another.
 use Rattle.std.proofs.Common.{◌≡◌, ℕ, zero, suc, ◌<◌, ◌≤◌, List, [], ◌∷◌, ◌++◌, length, take, arith, refl, sym, ap, ◌∙◌}
 use Rattle.std.proofs.Common.{length-append, append_assoc, inl, inr, take_all}
-use Rattle.std.specs.Prelude.{Bool, ◌==◌, true, false, Option, Some, None, filter, nat_le, slice_get, if◌then◌else◌}
+use Rattle.std.specs.Prelude.{Bool, true, false, Option, Some, None, filter, nat_le, slice_get, if◌then◌else◌}
 use Rattle.std.specs.List.{All, list_any}
-use Rattle.std.proofs.lemmas.Bool.{cases_lt, or_from, or_parts, or_right}
+use Rattle.std.proofs.lemmas.Bool.{cases_lt, or_parts}
 use Rattle.std.proofs.lemmas.Bool.Decides.{nat_tests}
 use Rattle.std.proofs.lemmas.Grind.{flat_map-append}
 use Rattle.std.proofs.lemmas.List.Elements.{filter-append}
@@ -15,14 +15,14 @@ use Rattle.pcap_classic.specs.Reading.{Reading}
 use Rattle.pcap_classic.specs.Records.{Record}
 use Rattle.pcap_classic.specs.Savefile.{Savefile}
 use Rattle.cbpf_why.specs.Chosen.{AreSorted, chosen, is_chosen, is_within}
-use Rattle.cbpf_why.specs.Job.{Broke, HasCause, RangeFault, IsOver, Looked, LookedKnown, Ranged, TookFrom, TookFromKnown, Stopped, Took, Went}
+use Rattle.cbpf_why.specs.Taking.{Broke, HasCause, RangeFault, IsOver, Looked, LookedKnown, Ranged, TookFrom, TookFromKnown, LeftAfter, HasGathered, Went}
 use Rattle.cbpf_why.specs.Question.{machine_in}
 use Rattle.cbpf_why.specs.Reports.{ends_beyond, goes_to_end, packet_text, packets_text}
 use Rattle.cbpf_why.specs.declared.chosen.PacketRange.{PacketRange}
-use Rattle.cbpf_why.specs.declared.counted.Counted.{Counted}
+use Rattle.cbpf_why.specs.declared.gathered.Gathered.{Gathered}
 use Rattle.cbpf_why.specs.declared.question.Question.{Question}
-use Rattle.cbpf_why.specs.declared.job.WhyFault.{WhyFault}
-use Rattle.cbpf_why.specs.declared.job.WhyFault.TheVariants as why
+use Rattle.cbpf_why.specs.declared.reporting.WhyFault.{WhyFault}
+use Rattle.cbpf_why.specs.declared.reporting.WhyFault.TheVariants as why
 
 -- ---- which ranges a number stands in
 
@@ -73,17 +73,12 @@ within_some ranges i range n at is =
     list_any_at (is_within n) ranges i range (slice_get_within ranges i range at)
     (ap (is_within n) (get_or_from_slice_get ranges i range range at) ∙ is)
 
-chosen_any : (ranges : List PacketRange) (i : ℕ) (range : PacketRange) (n : ℕ) → slice_get ranges i ≡ Some range
-    → is_chosen ranges n ≡ list_any (is_within n) ranges
-chosen_any [] i range n at = absurd cc
-chosen_any (x ∷ xs) i range n at = refl
-
 -- one up to a range's last one is looked at where it is in the range
 chosen_here : (ranges : List PacketRange) (i : ℕ) (range : PacketRange) (count n : ℕ) → AreSorted ranges
     → slice_get ranges i ≡ Some range → All (EndsBy count) (take i ranges) → count < n → n ≤ range.last
     → is_chosen ranges n ≡ nat_le range.first n
 chosen_here ranges i range count n sorted at ended above up_to =
-    chosen_any ranges i range n at ∙ elim (cases_lt n range.first) [
+    elim (cases_lt n range.first) [
       | inl below ↦
           (let no : nat_le range.first n ≡ false = grind (arith, nat_tests) in
           none_before ranges i range count n sorted at ended above below ∙ sym no)
@@ -101,17 +96,12 @@ pub asks-end : (ranges : List PacketRange) (i : ℕ) (range : PacketRange) (coun
     → count < range.last → true ≡ goes_to_end ranges count
 asks-end ranges i range count at below =
     let is : ends_beyond count range ≡ true = grind (arith, nat_tests) in
-    let any = list_any_at (ends_beyond count) ranges i range (slice_get_within ranges i range at)
-    (ap (ends_beyond count) (get_or_from_slice_get ranges i range range at) ∙ is) in
-    sym (or_right (length ranges == 0) (list_any (ends_beyond count) ranges) any)
+    sym (list_any_at (ends_beyond count) ranges i range (slice_get_within ranges i range at)
+    (ap (ends_beyond count) (get_or_from_slice_get ranges i range range at) ∙ is))
 
-pub asks-no-end : (ranges : List PacketRange) (count : ℕ) → 0 < length ranges → All (EndsBy count) ranges
-    → false ≡ goes_to_end ranges count
-asks-no-end ranges count some h =
-    let none = list_any_none (ends_beyond count) ranges
-    (λ k d l. let most = h k d l in grind (arith, nat_tests)) in
-    let no : (length ranges == 0) ≡ false = grind (arith, nat_tests) in
-    sym (or_from (length ranges == 0) (list_any (ends_beyond count) ranges) no none)
+pub asks-no-end : (ranges : List PacketRange) (count : ℕ) → All (EndsBy count) ranges → false ≡ goes_to_end ranges count
+asks-no-end ranges count h =
+    sym (list_any_none (ends_beyond count) ranges (λ k d l. let most = h k d l in grind (arith, nat_tests)))
 
 any_none : (ranges : List PacketRange) (count : ℕ) → list_any (ends_beyond count) ranges ≡ false
     → All (EndsBy count) ranges
@@ -125,7 +115,7 @@ any_none (x ∷ xs) count none =
     by here rest (suc k) d l = rest k d (omega (arith, l))
 
 pub all-end : (ranges : List PacketRange) (count : ℕ) → false ≡ goes_to_end ranges count → All (EndsBy count) ranges
-all-end ranges count none = any_none ranges count (or_parts (length ranges == 0) (list_any (ends_beyond count) ranges) (sym none)).1
+all-end ranges count none = any_none ranges count (sym none)
 
 -- ---- records
 
@@ -186,7 +176,7 @@ cause_known why.Read ranges old mid new count records known h = tt
 cause_known why.Memory ranges None mid new count records known h = tt
 cause_known why.Memory ranges (Some s) mid new count records known h = rw known.1 at h
 
-pub went-nothing : {A P : Type 0} (q : Question P) (old : Reading) (c : Counted A) (w : Option (List ℕ)) → Took q c []
+pub went-nothing : {A P : Type 0} (q : Question P) (old : Reading) (c : Gathered A) (w : Option (List ℕ)) → HasGathered q c []
     → old.count ≡ 0 → Appended w w [] → Went q old old c w w
 went-nothing q old c w took count nothing = record {
   records = [];
@@ -202,7 +192,7 @@ went-nothing q old c w took count nothing = record {
     starts ranges (Some s) = (s, refl, record { front = []; split = refl; counted = refl; among = refl })
 
 module _ {A P : Type 0} (q : Question P) (i : ℕ) (range : PacketRange) (old mid new : Reading)
-    (c d : Counted A) (u v w : Option (List ℕ)) (sorted : AreSorted q.packets.now)
+    (c d : Gathered A) (u v w : Option (List ℕ)) (sorted : AreSorted q.packets.now)
     (at : slice_get q.packets.now i ≡ Some range) (ended : All (EndsBy mid.count) (take i q.packets.now))
     (went : Went q old mid c u v) where
   by_last : (n : ℕ) → goes_to_end q.packets.now n ≡ false → (mid.count < new.count → new.count ≤ range.last)
@@ -239,8 +229,8 @@ module _ {A P : Type 0} (q : Question P) (i : ℕ) (range : PacketRange) (old mi
         (stopped_more fault u v w (packets_text q.report (machine_in q) went.records) _ went.wrote faulted.stopped);
   }
     where
-      stopped_more : (e : WhyFault) (u v w : Option (List ℕ)) (a b : List ℕ) → Appended u v a → Stopped e v w b
-          → Stopped e u w (a ++ b)
+      stopped_more : (e : WhyFault) (u v w : Option (List ℕ)) (a b : List ℕ) → Appended u v a → LeftAfter e v w b
+          → LeftAfter e u w (a ++ b)
       stopped_more why.Write u v w a b x y = part-then u v w a b x y
       stopped_more why.Read u v w a b x y = appended-then u v w a b x y
       stopped_more why.Memory u v w a b x y = appended-then u v w a b x y
@@ -250,7 +240,7 @@ pub all-ended : (ranges : List PacketRange) (count i : ℕ) → length ranges �
 all-ended ranges count i past h = rw (take_all i ranges past) at h
 
 -- the end of what was left is that of the capture
-pub is-over : {A P : Type 0} (q : Question P) (old mid new : Reading) (c : Counted A) (u v : Option (List ℕ))
+pub is-over : {A P : Type 0} (q : Question P) (old mid new : Reading) (c : Gathered A) (u v : Option (List ℕ))
     → Went q old mid c u v → IsOver mid.left new → IsOver old.left new
 is-over q old mid new c u v went over = by q.packets.now old.left mid.left new mid.count went.records went.known over
   where
@@ -258,47 +248,3 @@ is-over q old mid new c u v went over = by q.packets.now old.left mid.left new m
         → LookedKnown ranges a b n records → IsOver b r → IsOver a r
     by ranges None b r n records known h = tt
     by ranges (Some s) b r n records known h = rw known.1 at h
-
--- ---- all packets
-
-looked_all : (s rest : Savefile) (after : ℕ) (more : List Record) → TookFrom 1 s rest 0 after more
-    → Looked [] s rest after more
-looked_all s rest after more reads = record {
-  front = reads.front;
-  split = reads.split;
-  counted = omega (arith, reads.counted);
-  among = reads.taken
-      ∙ filter_like (λ r. nat_le 1 r.number) (λ r. is_chosen [] r.number) reads.front (λ i r there.
-      let number = reads.numbered i r there in grind (arith, nat_tests));
-}
-
-known_all : (old new : Option Savefile) (after : ℕ) (more : List Record) → TookFromKnown 1 old new 0 after more
-    → LookedKnown [] old new after more
-known_all None new after more reads = tt
-known_all (Some s) new after more reads = (reads.0, reads.1, looked_all s reads.0 after more reads.2)
-
-no_ranges : {X : Type 0} (n : ℕ) → goes_to_end [] n ≡ false → X
-no_ranges n ends = absurd cc
-
-pub went-all : {A P : Type 0} (q : Question P) (last : ℕ) (old new : Reading) (d : Counted A) (u w : Option (List ℕ))
-    → old.count ≡ 0 → q.packets.now ≡ [] → Ranged q (record { first = 1; last = last }) [] old new d u w
-    → Went q old new d u w
-went-all q last old new d u w none all ranged = record {
-  records = ranged.going.more;
-  took = ranged.going.took;
-  few = ranged.going.few;
-  within = λ n ends. no_ranges n (rw all at ends);
-  known = rw all (known_all old.left new.left new.count ranged.going.more (rw none at ranged.going.reads));
-  wrote = ranged.going.wrote;
-}
-
-pub broke-all : {P : Type 0} (q : Question P) (last : ℕ) (old new : Reading) (u w : Option (List ℕ)) (fault : WhyFault)
-    → old.count ≡ 0 → q.packets.now ≡ [] → RangeFault q (record { first = 1; last = last }) old new u w fault
-    → Broke q old.left new u w fault
-broke-all q last old new u w fault none all faulted = record {
-  records = faulted.more;
-  within = λ n ends. no_ranges n (rw all at ends);
-  known = rw all (known_all old.left new.left new.count faulted.more (rw none at faulted.reads));
-  cause = faulted.cause;
-  stopped = faulted.stopped;
-}

@@ -4,14 +4,14 @@ use Rattle.std.specs.Prelude.{true, false, Option, Some, None, Ok, Err, filter, 
 use Rattle.std.proofs.lemmas.Bool.Decides.{nat_tests}
 use Rattle.std.proofs.lemmas.List.Elements.{filter-append}
 use Rattle.pcap_classic.specs.Savefile.{Savefile}
-use Rattle.cbpf_why.specs.declared.counted.Counted.{Counted}
+use Rattle.cbpf_why.specs.declared.gathered.Gathered.{Gathered}
 use Rattle.cbpf_why.specs.declared.question.Question.{Question}
 use Rattle.pcap_classic.specs.Records.{Record}
-use Rattle.cbpf_why.specs.Job.{HasCause, Took, TookFrom, Stepped, StepFault, LeavesKnown, from_first}
+use Rattle.cbpf_why.specs.Taking.{HasCause, HasGathered, TookFrom, Stepped, StepFault, LeavesKnown, from_first}
 use Rattle.cbpf_why.specs.Question.{machine_in}
 use Rattle.cbpf_why.specs.Reports.{packet_text}
-use Rattle.cbpf_why.specs.declared.job.WhyFault.TheVariants.{Write}
-use Rattle.cbpf_why.specs.declared.job.WhyFault.TheVariants as why
+use Rattle.cbpf_why.specs.declared.reporting.WhyFault.TheVariants.{Write}
+use Rattle.cbpf_why.specs.declared.reporting.WhyFault.TheVariants as why
 use Rattle.pcap_classic.specs.declared.reading.ReadFault.TheVariants.{Read, Memory}
 use Rattle.std.specs.declared.io.Error.{Error}
 use Rattle.cbpf_code.specs.Writing.{Appended, AppendedPart}
@@ -70,10 +70,10 @@ leaves_none : (before : ℕ) (o : Option Savefile) (new : Reading) → IfSome o 
 leaves_none before None new h = tt
 leaves_none before (Some s) new h = (s, h, refl, λ r at. absurd cc)
 
-module _ {A P : Type 0} (q : Question P) (first : ℕ) (records : List Record) (old new : Reading) (c : Counted A)
+module _ {A P : Type 0} (q : Question P) (first : ℕ) (records : List Record) (old new : Reading) (c : Gathered A)
     (u v : Option (List ℕ)) (item : Captured) (goes : Proceeds old.count (Ok (Some item)) new)
     (gives : IfSome old.left (λ s. Gives s (Ok (Some item)) new)) where
-  pub stepped_over : item.number < first → Took q c records → Appended u v [] → Stepped q first records old new c u v true
+  pub stepped_over : item.number < first → HasGathered q c records → Appended u v [] → Stepped q first records old new c u v true
   stepped_over below took wrote =
       let none = from_no first (record_of item) below in
       record {
@@ -87,7 +87,7 @@ module _ {A P : Type 0} (q : Question P) (first : ℕ) (records : List Record) (
         wrote = rw none wrote;
       }
 
-  pub stepped_on : first ≤ item.number → Took q c (records ++ record_of item ∷ [])
+  pub stepped_on : first ≤ item.number → HasGathered q c (records ++ record_of item ∷ [])
       → Appended u v (packet_text q.report (machine_in q) (record_of item)) → Stepped q first records old new c u v true
   stepped_on above took wrote =
       let some = from_yes first (record_of item) above in
@@ -141,8 +141,8 @@ needs_room (Some s) new h = rw h.0 h.1
 
 module _ {A P : Type 0} (q : Question P) (first : ℕ) (old new : Reading) (u v : Option (List ℕ)) (nothing : Appended u v []) where
   -- there was no record
-  pub stepped_end : (records : List Record) (c : Counted A) → Proceeds old.count (Ok None) new
-      → IfSome old.left (λ s. Gives s (Ok None) new) → Took q c records → Stepped q first records old new c u v false
+  pub stepped_end : (records : List Record) (c : Gathered A) → Proceeds old.count (Ok None) new
+      → IfSome old.left (λ s. Gives s (Ok None) new) → HasGathered q c records → Stepped q first records old new c u v false
   stepped_end records c goes gives took = record {
     one = [];
     is_one = refl;

@@ -14,15 +14,15 @@ use Rattle.pcap_classic.specs.Reading.{Reading}
 use Rattle.pcap_classic.specs.Records.{AreNumbered, Record}
 use Rattle.pcap_classic.specs.Savefile.{Savefile}
 use Rattle.cbpf_why.specs.Chosen.{chosen, is_chosen}
-use Rattle.cbpf_why.specs.Job.{Broke, Closed, HasCause, Ends, Looked, LookedKnown, Stopped, Went}
+use Rattle.cbpf_why.specs.Taking.{Broke, Closed, HasCause, Ends, Looked, LookedKnown, LeftAfter, Went}
 use Rattle.cbpf_why.specs.Question.{machine_in}
-use Rattle.cbpf_why.specs.Reports.{IsLeft, IsWithin, Reported, WroteFront, capture_end, closing_text, end_after, end_read, goes_to_end, packet_text, packets_text, report_text, shown_end}
+use Rattle.cbpf_why.specs.Reports.{IsLeft, ReadsWithin, Reported, WroteFront, capture_end, closing_text, end_after, end_read, goes_to_end, packet_text, packets_text, report_text}
 use Rattle.cbpf_why.specs.declared.chosen.PacketRange.{PacketRange}
-use Rattle.cbpf_why.specs.declared.counted.Counted.{Counted}
+use Rattle.cbpf_why.specs.declared.gathered.Gathered.{Gathered}
 use Rattle.cbpf_why.specs.declared.question.Question.{Question}
-use Rattle.cbpf_why.specs.declared.job.CaptureEnd.{CaptureEnd}
-use Rattle.cbpf_why.specs.declared.job.WhyFault.{WhyFault}
-use Rattle.cbpf_why.specs.declared.job.WhyFault.TheVariants as why
+use Rattle.cbpf_why.specs.declared.reporting.CaptureEnd.{CaptureEnd}
+use Rattle.cbpf_why.specs.declared.reporting.WhyFault.{WhyFault}
+use Rattle.cbpf_why.specs.declared.reporting.WhyFault.TheVariants as why
 use Rattle.cbpf_why.specs.declared.report.Report.{Report, TheVariants.Graph}
 use Rattle.cbpf_why.proofs.RangeLemmas.{EndsBy, all-end, asks-no-end, ends-later, none_above}
 
@@ -34,10 +34,10 @@ filter_none p [] h = refl
 filter_none p (x ∷ xs) h =
     ap (λ b. if b then x ∷ filter p xs else filter p xs) (h 0 x refl) ∙ filter_none p xs (λ i r at. h (suc i) r at)
 
-none_left : (x : PacketRange) (xs : List PacketRange) (count : ℕ) (records : List Record) → AreNumbered count records
-    → All (EndsBy count) (x ∷ xs) → chosen (x ∷ xs) records ≡ []
-none_left x xs count records numbered ended = filter_none (λ r. is_chosen (x ∷ xs) r.number) records (λ i r at.
-    let number = numbered i r at in none_above count r.number (x ∷ xs) ended (omega (arith, number)))
+none_left : (ranges : List PacketRange) (count : ℕ) (records : List Record) → AreNumbered count records
+    → All (EndsBy count) ranges → chosen ranges records ≡ []
+none_left ranges count records numbered ended = filter_none (λ r. is_chosen ranges r.number) records (λ i r at.
+    let number = numbered i r at in none_above count r.number ranges ended (omega (arith, number)))
 
 take_front : (xs ys : List Record) → take (length xs) (xs ++ ys) ≡ xs
 take_front [] [] = refl
@@ -87,12 +87,12 @@ module _ (ranges : List PacketRange) (c rest : Savefile) (count : ℕ) (records 
 
 whole_text : (report : Report) (ranges : List PacketRange) (m : Machine) (c : Savefile) (records : List Record)
     (text : List ℕ) → records ≡ chosen ranges c.records
-    → text ≡ closing_text report m records (shown_end ranges (Some (capture_end c)))
+    → text ≡ closing_text report m records (end_read ranges c)
     → packets_text report m records ++ text ≡ report_text report ranges m c
 unfolding report_text
 whole_text report ranges m c records text are is =
     ap (λ l. packets_text report m records ++ l) is
-    ∙ ap (λ l. packets_text report m l ++ closing_text report m l (shown_end ranges (Some (capture_end c)))) are
+    ∙ ap (λ l. packets_text report m l ++ closing_text report m l (end_read ranges c)) are
 
 -- what is known of the capture's end
 abbrev end_at : Reading → Bool → Option CaptureEnd
@@ -102,8 +102,7 @@ end_at new is_over =
 -- all that is looked at was read: the text that belongs to it, and the end
 pub record Finished (report : Report) (ranges : List PacketRange) (m : Machine) (c : Savefile) (records : List Record)
     (end : Option CaptureEnd) : Type 0 where
-  pub text : packets_text report m records ++ closing_text report m records (shown_end ranges end)
-      ≡ report_text report ranges m c
+  pub text : packets_text report m records ++ closing_text report m records end ≡ report_text report ranges m c
   pub is_end : end ≡ end_read ranges c
 
 finished_over : (report : Report) (m : Machine) (ranges : List PacketRange) (c rest : Savefile) (new : Reading)
@@ -113,28 +112,30 @@ finished_over : (report : Report) (m : Machine) (ranges : List PacketRange) (c r
 finished_over report m ranges c rest new records looked none ended goes =
     let many = as_many ranges c rest new.count records looked none in
     let nothing : chosen ranges rest.records ≡ [] = ap (chosen ranges) none in
-    let is : end_at new true ≡ Some (capture_end c) =
+    let whole : end_at new true ≡ Some (capture_end c) =
     ap (option_map (end_after new.count)) (ended ∙ ap Some (sym (same_ending ranges c rest new.count records looked)))
     ∙ ap (λ (n : ℕ). Some (end_after n c.ending)) (sym many) in
+    let is : end_at new true ≡ end_read ranges c =
+    whole ∙ ap (λ b. if b then Some (capture_end c) else None) (goes ∙ ap (goes_to_end ranges) (sym many)) in
     record {
-      text = whole_text report ranges m c records (closing_text report m records (shown_end ranges (end_at new true)))
-          (all_are ranges c rest new.count records looked nothing)
-          (ap (λ e. closing_text report m records (shown_end ranges e)) is);
-      is_end = is ∙ ap (λ b. if b then Some (capture_end c) else None) (goes ∙ ap (goes_to_end ranges) (sym many));
+      text = whole_text report ranges m c records (closing_text report m records (end_at new true))
+          (all_are ranges c rest new.count records looked nothing) (ap (closing_text report m records) is);
+      is_end = is;
     }
 
-finished_before : (report : Report) (m : Machine) (x : PacketRange) (xs : List PacketRange) (c rest : Savefile)
-    (new : Reading) (records : List Record) → Looked (x ∷ xs) c rest new.count records
-    → AreNumbered new.count rest.records → false ≡ goes_to_end (x ∷ xs) new.count
-    → Finished report (x ∷ xs) m c records (end_at new false)
-finished_before report m x xs c rest new records looked numbered goes =
-    let ended = all-end (x ∷ xs) new.count goes in
-    let nothing = none_left x xs new.count rest.records numbered ended in
-    let later = ends-later new.count (length c.records) (x ∷ xs) ended (at_most (x ∷ xs) c rest new.count records looked) in
+finished_before : (report : Report) (m : Machine) (ranges : List PacketRange) (c rest : Savefile) (new : Reading)
+    (records : List Record) → Looked ranges c rest new.count records → AreNumbered new.count rest.records
+    → false ≡ goes_to_end ranges new.count → Finished report ranges m c records (end_at new false)
+finished_before report m ranges c rest new records looked numbered goes =
+    let ended = all-end ranges new.count goes in
+    let nothing = none_left ranges new.count rest.records numbered ended in
+    let later = ends-later new.count (length c.records) ranges ended (at_most ranges c rest new.count records looked) in
+    let is : None ≡ end_read ranges c =
+    ap (λ b. if b then Some (capture_end c) else None) (asks-no-end ranges (length c.records) later) in
     record {
-      text = whole_text report (x ∷ xs) m c records (closing_text report m records None)
-          (all_are (x ∷ xs) c rest new.count records looked nothing) refl;
-      is_end = ap (λ b. if b then Some (capture_end c) else None) (asks-no-end (x ∷ xs) (length c.records) (omega arith) later);
+      text = whole_text report ranges m c records (closing_text report m records None)
+          (all_are ranges c rest new.count records looked nothing) (ap (closing_text report m records) is);
+      is_end = is;
     }
 
 finished_by : (report : Report) (m : Machine) (ranges : List PacketRange) (o : Option Savefile) (new : Reading)
@@ -145,10 +146,9 @@ finished_by report m ranges None new records is_over known ends numbered = tt
 finished_by report m ranges (Some c) new records true known ends numbered =
     let over = rw known.1 at (ends.over refl) in
     finished_over report m ranges c known.0 new records known.2 over.0 over.1 ends.asked
-finished_by report m [] (Some c) new records false known ends numbered = let asked = ends.asked in absurd cc
-finished_by report m (x ∷ xs) (Some c) new records false known ends numbered =
+finished_by report m ranges (Some c) new records false known ends numbered =
     let follows = rw known.1 at numbered in
-    finished_before report m x xs c known.0 new records known.2 follows ends.asked
+    finished_before report m ranges c known.0 new records known.2 follows ends.asked
 
 -- what is left of the capture, and how many of its packets were read at most
 left_by : (ranges : List PacketRange) (o : Option Savefile) (new : Reading) (records : List Record)
@@ -161,7 +161,7 @@ left_by ranges (Some c) new records known =
     ∙ ap (λ (s : Savefile). record s { records = rest.records }) known.2.split in
     known.1 ∙ ap Some (sym same)
 
-module _ {A P : Type 0} (q : Question P) (old new : Reading) (c : Counted A) (w v : Option (List ℕ)) where
+module _ {A P : Type 0} (q : Question P) (old new : Reading) (c : Gathered A) (w v : Option (List ℕ)) where
   pub left_after : (r : Result Bool WhyFault)
       → MatchResult r (λ is_over. Went q old new c w v × Ends q.packets.now old.left new is_over)
       (λ fault. Broke q old.left new w v fault) → IfSome old.left (λ s. IsLeft s new)
@@ -170,7 +170,7 @@ module _ {A P : Type 0} (q : Question P) (old new : Reading) (c : Counted A) (w 
 
   pub within_after : (r : Result Bool WhyFault)
       → MatchResult r (λ is_over. Went q old new c w v × Ends q.packets.now old.left new is_over)
-      (λ fault. Broke q old.left new w v fault) → IsWithin q.packets.now new.count
+      (λ fault. Broke q old.left new w v fault) → ReadsWithin q.packets.now new.count
   within_after (Ok is_over) h = h.0.within
   within_after (Err fault) h = h.within
 
@@ -180,7 +180,7 @@ front_part : (report : Report) (ranges : List PacketRange) (m : Machine) (c rest
     (records : List Record) (u w : Option (List ℕ)) → Looked ranges c rest count records
     → AppendedPart u w (packets_text report m records) → AppendedPart u w (report_text report ranges m c)
 front_part report ranges m c rest count records u w looked part =
-    let closing = closing_text report m (chosen ranges c.records) (shown_end ranges (Some (capture_end c))) in
+    let closing = closing_text report m (chosen ranges c.records) (end_read ranges c) in
     let all : packets_text report m (chosen ranges c.records)
     ≡ packets_text report m records ++ packets_text report m (chosen ranges rest.records) =
     ap (packets_text report m) (all_chosen ranges c rest count records looked)
@@ -200,7 +200,7 @@ wrote_front report ranges m c rest count records u w looked wrote = record {
 
 broke_by : (report : Report) (ranges : List PacketRange) (m : Machine) (o : Option Savefile) (new : Reading)
     (records : List Record) (u w : Option (List ℕ)) (fault : WhyFault) → LookedKnown ranges o new.left new.count records
-    → HasCause fault o new → Stopped fault u w (packets_text report m records)
+    → HasCause fault o new → LeftAfter fault u w (packets_text report m records)
     → IfSome o (λ c. Reported report ranges m c new.count u w (Err fault))
 broke_by report ranges m None new records u w fault known cause stopped = tt
 broke_by report ranges m (Some c) new records u w why.Write known cause stopped =
@@ -244,7 +244,7 @@ closed_by : (report : Report) (ranges : List PacketRange) (m : Machine) (o new :
     (records : List Record) (end : Option CaptureEnd) (u v w : Option (List ℕ)) (fault : WhyFault)
     → LookedKnown ranges o new count records → Appended u v (packets_text report m records)
     → IfSome o (λ c. Finished report ranges m c records end)
-    → Closed v w (Err fault) (closing_text report m records (shown_end ranges end)) → (fault ≡ why.Memory → report ≡ Graph)
+    → Closed v w (Err fault) (closing_text report m records end) → (fault ≡ why.Memory → report ≡ Graph)
     → IfSome o (λ c. Reported report ranges m c count u w (Err fault))
 closed_by report ranges m None new count records end u v w fault known wrote done closed graph = tt
 closed_by report ranges m (Some c) new count records end u v w why.Write known wrote done closed graph =
@@ -259,25 +259,24 @@ closed_by report ranges m (Some c) new count records end u v w why.Read known wr
 part_of_all : (u w : Option (List ℕ)) (text : List ℕ) → Appended u w text → AppendedPart u w text
 part_of_all u w text x = rw (append-nil text) at (part-then u w w text [] x (part-take w w 0 [] (appended-nil w)))
 
-module _ {A P : Type 0} (q : Question P) (old new : Reading) (d : Counted A) (u v w : Option (List ℕ)) (is_over : Bool)
-    (end shown : Option CaptureEnd) (went : Went q old new d u v) (ends : Ends q.packets.now old.left new is_over)
-    (numbered : IfSome new.left (λ s. AreNumbered new.count s.records)) (is : end ≡ end_at new is_over)
-    (shows : shown ≡ shown_end q.packets.now end) where
+module _ {A P : Type 0} (q : Question P) (old new : Reading) (d : Gathered A) (u v w : Option (List ℕ)) (is_over : Bool)
+    (end : Option CaptureEnd) (went : Went q old new d u v) (ends : Ends q.packets.now old.left new is_over)
+    (numbered : IfSome new.left (λ s. AreNumbered new.count s.records)) (is : end ≡ end_at new is_over) where
   done_by : IfSome old.left (λ c. Finished q.report q.packets.now (machine_in q) c went.records end)
   done_by = rw is
       (finished_by q.report (machine_in q) q.packets.now old.left new went.records is_over went.known ends numbered)
 
   pub unclosed : (fault : WhyFault)
-      → Closed v w (Err fault) (closing_text q.report (machine_in q) went.records shown)
+      → Closed v w (Err fault) (closing_text q.report (machine_in q) went.records end)
       → (fault ≡ why.Memory → q.report ≡ Graph)
       → IfSome old.left (λ c. Reported q.report q.packets.now (machine_in q) c new.count u w (Err fault))
   unclosed fault closed graph =
       closed_by q.report q.packets.now (machine_in q) old.left new.left new.count went.records end u v w fault
-      went.known went.wrote done_by (rw shows at closed) graph
+      went.known went.wrote done_by closed graph
 
   -- all was written, and then flushed
   pub complete : (z : Option (List ℕ))
-      → Appended v w (closing_text q.report (machine_in q) went.records shown) → KeepsBytes w z
+      → Appended v w (closing_text q.report (machine_in q) went.records end) → KeepsBytes w z
       → IfSome old.left (λ c. Reported q.report q.packets.now (machine_in q) c new.count u z (Ok end))
   complete z text kept = by old.left done_by
     where
@@ -285,10 +284,10 @@ module _ {A P : Type 0} (q : Question P) (old new : Reading) (d : Counted A) (u 
           → IfSome o (λ c. Reported q.report q.packets.now (machine_in q) c new.count u z (Ok end))
       by None done = tt
       by (Some c) done =
-          (done.is_end, rw done.text at (appended-kept u w z _ (appended-then u v w _ _ went.wrote (rw shows at text)) kept))
+          (done.is_end, rw done.text at (appended-kept u w z _ (appended-then u v w _ _ went.wrote text) kept))
 
   pub unflushed : (z : Option (List ℕ))
-      → Appended v w (closing_text q.report (machine_in q) went.records shown) → KeepsBytes w z
+      → Appended v w (closing_text q.report (machine_in q) went.records end) → KeepsBytes w z
       → IfSome old.left (λ c. Reported q.report q.packets.now (machine_in q) c new.count u z (Err why.Write))
   unflushed z text kept = by old.left (complete z text kept)
     where

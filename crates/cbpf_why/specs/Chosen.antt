@@ -1,5 +1,5 @@
 -- Which packets of a capture are looked at (this project's own; packets are numbered from 1, as `tcpdump -#` does).
-use Rattle.std.specs.Prelude.{◌≡◌, ℕ, ◌+◌, ◌≤◌, Bool, true, ◌&&◌, nat_le, nat_lt, List, [], ◌∷◌, filter, Option, Some, None}
+use Rattle.std.specs.Prelude.{◌≡◌, ℕ, ◌+◌, ◌≤◌, Bool, ◌&&◌, nat_le, nat_lt, List, [], ◌∷◌, filter, Option, Some, None}
 use Rattle.std.specs.Prelude.{if◌then◌else◌}
 use Rattle.std.proofs.Props.{props}
 use Rattle.std.specs.List.{All, list_any}
@@ -16,10 +16,9 @@ beyond count range =
     if nat_le range.first range.last && nat_lt count range.last
     then Some (record { first = if nat_lt count range.first then range.first else count + 1; last = range.last }) else None
 
--- a packet is in one of the ranges; where no range is given, each packet is chosen
+-- a packet is in one of the ranges
 abbrev pub is_chosen : List PacketRange → ℕ → Bool
-is_chosen [] n = true
-is_chosen (range ∷ ranges) n = list_any (is_within n) (range ∷ ranges)
+is_chosen ranges n = list_any (is_within n) ranges
 
 -- the records that are looked at, in the capture's order
 abbrev pub chosen : List PacketRange → List Record → List Record

@@ -5,7 +5,7 @@ use Rattle.cbpf_machine.specs.Choices.{runs_at}
 use Rattle.pcap_classic.specs.Records.{Record}
 use Rattle.cbpf_why.specs.declared.ended.Verdict.{Verdict}
 use Rattle.cbpf_why.specs.declared.graph.CountedProgram.{CountedProgram}
-use Rattle.cbpf_why.specs.Ends.{alone_of}
+use Rattle.cbpf_why.specs.Ends.{only_ended_of}
 use Rattle.cbpf_why.specs.Graph.{begins_block}
 use Rattle.cbpf_why.specs.Groups.{KeepsAll, by_verdict}
 use Rattle.cbpf_why.specs.Runs.{executed, taken}
@@ -23,4 +23,4 @@ pub record IsCounted {A P : Type 0} (c : CountedProgram A P) (m : Machine) (reco
   pub packets : c.packets ≡ length records
   pub begins : (i : ℕ) → i < length m.list → slice_index_or c.begins.now i false ≡ begins_block m.list i
   pub runs : (i : ℕ) → runs_at c.runs.now i ≡ record { executed = executed m records i; taken = taken m records i }
-  pub groups : KeepsAll c.groups.now (length m.list) (alone_of m records)
+  pub groups : KeepsAll c.groups.now (length m.list) (only_ended_of m records)

@@ -22,7 +22,7 @@ use Rattle.pcap_classic.specs.Records.{Record}
 use Rattle.cbpf_why.specs.declared.ended.Verdict.{Verdict}
 use Rattle.cbpf_why.specs.declared.ended.Verdict.TheVariants as verdict_is
 use Rattle.cbpf_why.specs.declared.ended.Ended.{Ended}
-use Rattle.cbpf_why.specs.declared.ended.Decided.{Decided}
+use Rattle.cbpf_why.specs.declared.ended.EndedBy.{EndedBy}
 
 -- the kind of an outcome
 abbrev pub kind_of : Outcome → Verdict
@@ -69,23 +69,23 @@ deciding ZeroDivisor last = None
 deciding (Unknown e) last = None
 
 -- how a packet ends, and which conditional jump decided that, if one did: the last one before a return
-abbrev pub decided : Machine → Record → Decided
+abbrev pub decided : Machine → Record → EndedBy
 decided m r = record {
   ended = ended m r;
   by = deciding (ended m r).reason (last_choice m.list (trace m r.bytes r.wire));
 }
 
 -- how packets end, each with what decided it
-abbrev pub decided_of : Machine → List Record → List Decided
+abbrev pub decided_of : Machine → List Record → List EndedBy
 decided_of m records = map (decided m) records
 
 -- the same without the jump
-abbrev pub alone : Machine → Record → Decided
-alone m r = record { ended = ended m r; by = None }
+abbrev pub only_ended : Machine → Record → EndedBy
+only_ended m r = record { ended = ended m r; by = None }
 
 -- how packets end, each with no jump beside
-abbrev pub alone_of : Machine → List Record → List Decided
-alone_of m records = map (alone m) records
+abbrev pub only_ended_of : Machine → List Record → List EndedBy
+only_ended_of m records = map (only_ended m) records
 
 -- ---- the words for it
 

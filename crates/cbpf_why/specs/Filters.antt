@@ -10,8 +10,7 @@ use Rattle.cbpf_code.specs.WordTokens.{is_blank, is_digit}
 use Rattle.cbpf_code.specs.declared.insn.Insn.{Insn}
 use Rattle.cbpf_code.specs.declared.words.WordFault.TheVariants as word
 use Rattle.cbpf_text.specs.Assembled.{Assembles}
-use Rattle.cbpf_text.specs.Refusals.{IsRefused}
-use Rattle.cbpf_text.specs.declared.fault.AsmFault.TheVariants as asm
+use Rattle.cbpf_text.specs.Refusals.{IsRefusedFrom}
 use Rattle.cbpf_why.specs.declared.filter.FilterFault.{FilterFault}
 use Rattle.cbpf_why.specs.declared.filter.FilterFault.TheVariants.{Source, Words, Check, Memory}
 
@@ -41,7 +40,7 @@ IsFilter text list = Reads text list × IsSound list
 
 -- why a text is no program; `Memory` says nothing of the text
 abbrev pub IsNoFilter : List ℕ → FilterFault → Type 0
-IsNoFilter text (Source fault) = (are_words text ≡ false) × (IsRefused text fault × (fault ≢ asm.Memory))
+IsNoFilter text (Source fault at) = (are_words text ≡ false) × IsRefusedFrom text fault at
 IsNoFilter text (Words fault) = (are_words text ≡ true) × (Refused (word_text_of text) fault × (fault ≢ word.Memory))
 IsNoFilter text (Check fault) = (list : List Insn) × Reads text list × FirstFault list fault
 IsNoFilter text Memory = Unit {0}
@@ -56,6 +55,6 @@ IsWordsFault text _ = ⊥
 
 -- why a text is no source; `Memory` says nothing of the text
 abbrev pub IsSourceFault : List ℕ → FilterFault → Type 0
-IsSourceFault text (Source fault) = IsRefused text fault × (fault ≢ asm.Memory)
+IsSourceFault text (Source fault at) = IsRefusedFrom text fault at
 IsSourceFault text Memory = Unit {0}
 IsSourceFault text _ = ⊥

@@ -17,7 +17,7 @@ use Rattle.cbpf_machine.specs.Machine.{Machine}
 use Rattle.cbpf_machine.specs.declared.tally.Runs.{Runs}
 use Rattle.cbpf_reply.specs.Packet.{texts_from}
 use Rattle.pcap_classic.specs.Records.{Record}
-use Rattle.cbpf_why.specs.declared.ended.Decided.{Decided}
+use Rattle.cbpf_why.specs.declared.ended.EndedBy.{EndedBy}
 use Rattle.cbpf_why.specs.declared.ended.Ended.{Ended}
 use Rattle.cbpf_why.specs.declared.ended.Verdict.{Verdict}
 use Rattle.cbpf_why.specs.declared.ended.Verdict.TheVariants.{Pass, Fail, Unknown}
@@ -98,7 +98,7 @@ unfoldable pub edge : ℕ → ℕ → List ℕ → ℕ → List ℕ
 edge from to word count = concat (node from ∷ codes " -> " ∷ node to ∷ edge_label word count ∷ [])
 
 -- what is counted of an instruction: its runs, those of its block, and the three groups in its first row
-abbrev pub facts_at : Machine → List Record → List Decided → ℕ → Facts
+abbrev pub facts_at : Machine → List Record → List EndedBy → ℕ → Facts
 facts_at m records ends i =
     record {
       runs = record { executed = executed m records i; taken = taken m records i };
@@ -180,7 +180,7 @@ end_edge block e count =
     ∷ colour (verdict_of e.reason) ∷ codes "]\n" ∷ node block ∷ codes " -> " ∷ end_node e ∷ edge_label [] count ∷ [])
 
 -- by how many packets a group has, and its first one
-abbrev pub group_end_by : ℕ → ℕ → Option Decided → List ℕ
+abbrev pub group_end_by : ℕ → ℕ → Option EndedBy → List ℕ
 group_end_by block count None = []
 group_end_by block count (Some d) = end_edge block d.ended count
 
@@ -202,7 +202,7 @@ graph_head count =
     ∷ codes "packets [shape=plaintext]\npackets -> l0" ∷ edge_label [] count ∷ [])
 
 -- the blocks with the edges between them, and then the groups of packets that ended
-unfoldable pub graph_text : Machine → List Record → List Decided → List ℕ
+unfoldable pub graph_text : Machine → List Record → List EndedBy → List ℕ
 graph_text m records ends =
     graph_head (length records) ++ (texts_from (λ i. block_part m.list i (facts_at m records ends i)) 0 (length m.list)
     ++ (texts_from (λ i. end_part (block_of m.list i) (facts_at m records ends i)) 0 (length m.list) ++ codes "}\n"))

@@ -10,13 +10,13 @@ use Rattle.cbpf_machine.specs.Machine.{Machine}
 use Rattle.cbpf_machine.specs.Trace.{outcome}
 use Rattle.cbpf_reply.specs.Counts.{counts_of, outcomes_of}
 use Rattle.pcap_classic.specs.Records.{Record}
-use Rattle.cbpf_why.specs.declared.ended.Decided.{Decided}
+use Rattle.cbpf_why.specs.declared.ended.EndedBy.{EndedBy}
 use Rattle.cbpf_why.specs.declared.ended.Verdict.{Verdict}
 use Rattle.cbpf_why.specs.declared.filter.FilterFault.{FilterFault, TheVariants.Memory}
 use Rattle.cbpf_why.specs.Filters.{IsFilter, IsNoFilter}
-use Rattle.cbpf_why.specs.Ends.{alone_of, decided, decided_of, ended, ends_of, kind_of, verdict_of}
+use Rattle.cbpf_why.specs.Ends.{decided, decided_of, ended, ends_of, kind_of, only_ended_of, verdict_of}
 use Rattle.cbpf_why.specs.Graph.{Edge, block_of, edges_of, ended_in, facts_at, is_last}
-use Rattle.cbpf_why.specs.Groups.{count_of, group, is_in_group, row, totals}
+use Rattle.cbpf_why.specs.Groups.{ended_with, group, is_in_group, row, totals}
 use Rattle.cbpf_why.specs.Runs.{executed}
 
 -- the verdict on a packet is the kind of its outcome
@@ -49,7 +49,7 @@ EachAnswered = (text : List ℕ) → ((list : List Insn) × IsFilter text list)
 -- ---- groups, of which there is one for each row and verdict; all of a checked program
 
 -- a packet is in one group, and in no other
-pub record InOneGroup (n : ℕ) (d : Decided) : Type 0 where
+pub record InOneGroup (n : ℕ) (d : EndedBy) : Type 0 where
   pub inside : row d < 2 * n
   pub there : is_in_group (row d) (verdict_of d.ended.reason) d ≡ true
   pub alone : (i : ℕ) (v : Verdict) → is_in_group i v d ≡ true → (i ≡ row d) × (v ≡ verdict_of d.ended.reason)
@@ -66,7 +66,7 @@ sum_of_first f (suc n) = sum_of_first f n + f n
 -- the counts of a verdict's groups sum to its total
 abbrev pub GroupsSumToTotals : Type 0
 GroupsSumToTotals = (m : Machine) → IsSound m.list → (records : List Record) (v : Verdict)
-    → sum_of_first (λ i. length (group (decided_of m records) i v)) (2 * length m.list) ≡ count_of (ends_of m records) v
+    → sum_of_first (λ i. length (group (decided_of m records) i v)) (2 * length m.list) ≡ ended_with (ends_of m records) v
 
 -- why a packet ended, without the value that was returned
 abbrev pub without_value : End → End
@@ -76,7 +76,7 @@ without_value ZeroDivisor = ZeroDivisor
 without_value (Unknown e) = Unknown e
 
 -- two packets ended at the same instruction for the same reason, and the same way of the same jump decided, if one did
-pub record SameEnd (d e : Decided) : Type 0 where
+pub record SameEnd (d e : EndedBy) : Type 0 where
   pub pc : d.ended.pc ≡ e.ended.pc
   pub by : d.by ≡ e.by
   pub reason : without_value d.ended.reason ≡ without_value e.ended.reason
@@ -90,12 +90,12 @@ GroupsEndAlike = (m : Machine) → IsSound m.list → (i : ℕ) (v : Verdict) (r
 
 -- the edges from an instruction at the end of a block, as the graph of some records has them
 abbrev pub edges_at : Machine → List Record → ℕ → List Edge
-edges_at m records i = edges_of i (facts_at m records (alone_of m records) i) (slice_get m.list i)
+edges_at m records i = edges_of i (facts_at m records (only_ended_of m records) i) (slice_get m.list i)
 
 -- how many packets ended at an instruction, where it is one of a block
 abbrev pub ended_in_block : Machine → List Record → ℕ → ℕ → ℕ
 ended_in_block m records block j =
-    if block_of m.list j == block then ended_in (facts_at m records (alone_of m records) j) else 0
+    if block_of m.list j == block then ended_in (facts_at m records (only_ended_of m records) j) else 0
 
 -- the runs of a block are the sum of the counts of the edges from it and of the packets that ended in it
 abbrev pub BlocksSum : Type 0

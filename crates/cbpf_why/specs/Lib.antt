@@ -12,6 +12,6 @@ pub mod Graph
 pub mod CountedProgram
 pub mod Reports
 pub mod Question
-pub mod Job
+pub mod Taking
 pub mod Laws
 pub mod Messages

@@ -57,7 +57,7 @@ impl Ended {
 
 /// A packet that ended, and the conditional jump that decided it, if one did.
 #[derive(Clone, Copy, Debug, PartialEq, Eq)]
-pub(crate) struct Decided {
+pub(crate) struct EndedBy {
     /// How it ended.
     pub(crate) ended: Ended,
     /// The last conditional jump before its return.
@@ -77,13 +77,13 @@ pub(crate) fn deciding<T: Copy>(reason: End, last: Option<T>) -> Option<T>
     }
 }
 
-impl Decided {
+impl EndedBy {
     /// A packet that ended, by its last conditional jump.
     #[inline(always)]
-    pub(crate) fn of(ended: Ended, choice: Option<Choice>) -> Decided
+    pub(crate) fn of(ended: Ended, choice: Option<Choice>) -> EndedBy
         ensures { result ≡ record { ended = ended; by = spec.deciding ended.reason choice } }
     {
-        Decided {
+        EndedBy {
             ended,
             by: deciding(ended.reason, choice),
         }

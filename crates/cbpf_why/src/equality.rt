@@ -5,8 +5,8 @@ ghost use Rattle.std.specs.Prelude.{◌≡◌, Decides};
 use crate::chosen::PacketRange;
 use crate::ended::{Ended, Verdict};
 use crate::filter::FilterFault;
-use crate::job::{CaptureEnd, WhyFault};
 use crate::report::Report;
+use crate::reporting::{CaptureEnd, WhyFault};
 
 /// Two values of a type are equal by `==` exactly where contracts see the same.
 pub fn equal_where_same()

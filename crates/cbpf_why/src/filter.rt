@@ -6,7 +6,7 @@ ghost use Rattle.cbpf_text.specs.Assembled.{Assembles};
 ghost use Rattle.cbpf_why.specs.Filters as spec;
 
 use cbpf_code::{CheckFault, Insn, Program, WordFault, is_blank, is_digit, read_words};
-use cbpf_text::{AsmFault, assemble};
+use cbpf_text::{AsmFault, PlacedFault, assemble_placed};
 use std::alloc::Allocator;
 use std::error::Error;
 use std::fmt;
@@ -14,8 +14,9 @@ use std::fmt;
 /// Why a text is no program.
 #[derive(Clone, Copy, Debug, PartialEq, Eq)]
 pub enum FilterFault {
-    /// It is no source. It is never `AsmFault::Memory`.
-    Source(AsmFault),
+    /// It is no source. The fault is never `AsmFault::Memory`. The position in the text that shows it is counted in
+    /// bytes from 0.
+    Source(AsmFault, usize),
     /// It is no word text. It is never `WordFault::Memory`.
     Words(WordFault),
     /// The checker refuses its instructions.
@@ -33,7 +34,7 @@ impl fmt::Display for FilterFault {
 
     fn fmt<W: fmt::Write>(&self, f: &mut fmt::Formatter<W>) -> fmt::Result {
         match self {
-            FilterFault::Source(fault) => fmt::Display::fmt(fault, f),
+            FilterFault::Source(fault, _) => fmt::Display::fmt(fault, f),
             FilterFault::Words(fault) => fmt::Display::fmt(fault, f),
             FilterFault::Check(fault) => fmt::Display::fmt(fault, f),
             FilterFault::Memory => f.write_str("out of memory"),
@@ -92,10 +93,13 @@ fn source_list<A: Allocator + Copy>(alloc: A, text: &[u8]) -> Result<Vec<Insn, A
     ensures ok { IfOk result (λ list. Assembles text.now list.items) }
     ensures fault { IfErr result (spec.IsSourceFault text.now) }
 {
-    match assemble(alloc, text) {
+    match assemble_placed(alloc, text) {
         Ok(list) => Ok(list),
-        Err(AsmFault::Memory) => Err(FilterFault::Memory),
-        Err(fault) => Err(FilterFault::Source(fault)),
+        Err(PlacedFault::Memory) => Err(FilterFault::Memory),
+        Err(PlacedFault::At(kind, at)) => {
+            let fault = PlacedFault::At(kind, at).on_line(text);
+            Err(FilterFault::Source(fault, at))
+        }
     }
 }
 

@@ -6,7 +6,7 @@ ghost use Rattle.cbpf_machine.specs.Machine.{Machine};
 ghost use Rattle.cbpf_reply.specs.Packet.{texts_from};
 ghost use Rattle.pcap_classic.specs.Records.{Record};
 ghost use Rattle.cbpf_why.specs.CountedProgram.{HasAllCounts, IsCounted};
-ghost use Rattle.cbpf_why.specs.Ends.{alone_of};
+ghost use Rattle.cbpf_why.specs.Ends.{only_ended_of};
 ghost use Rattle.cbpf_why.specs.Graph as spec;
 
 use crate::block_nodes::{write_block_part, write_head};
@@ -60,7 +60,7 @@ impl<A: Allocator + Copy, P: Allocator> CountedProgram<'_, A, P> {
         requires inside { i < length self.now.program.now }
         requires block { block < length self.now.program.now }
         ensures { (m : Machine) (records : List Record) → IsCounted self.now m records
-            → block ≡ spec.block_of m.list i → result ≡ spec.facts_at m records (alone_of m records) i }
+            → block ≡ spec.block_of m.list i → result ≡ spec.facts_at m records (only_ended_of m records) i }
     {
         Facts {
             runs: self.runs[i as usize],
@@ -90,7 +90,7 @@ fn write_blocks<W: Write, A: Allocator + Copy, P: Allocator>(
     requires { HasAllCounts counted.now }
     ensures { (m : Machine) (records : List Record) → IsCounted counted.now m records
         → Wrote (W.contents w.old) (W.contents w.new) result
-        (texts_from (λ i. spec.block_part m.list i (spec.facts_at m records (alone_of m records) i))
+        (texts_from (λ i. spec.block_part m.list i (spec.facts_at m records (only_ended_of m records) i))
         0 (length m.list)) }
 {
     let mut block = 0;
@@ -110,7 +110,7 @@ fn write_ends<W: Write, A: Allocator + Copy, P: Allocator>(
     requires { HasAllCounts counted.now }
     ensures { (m : Machine) (records : List Record) → IsCounted counted.now m records
         → Wrote (W.contents w.old) (W.contents w.new) result
-        (texts_from (λ i. spec.end_part (spec.block_of m.list i) (spec.facts_at m records (alone_of m records) i))
+        (texts_from (λ i. spec.end_part (spec.block_of m.list i) (spec.facts_at m records (only_ended_of m records) i))
         0 (length m.list)) }
 {
     let mut block = 0;
@@ -128,7 +128,7 @@ pub(crate) fn write_graph<W: Write, A: Allocator + Copy, P: Allocator>(
 ) -> Result<(), WriteFault>
     requires { HasAllCounts counted.now }
     ensures { (m : Machine) (records : List Record) → IsCounted counted.now m records
-        → Wrote (W.contents w.old) (W.contents w.new) result (spec.graph_text m records (alone_of m records)) }
+        → Wrote (W.contents w.old) (W.contents w.new) result (spec.graph_text m records (only_ended_of m records)) }
 {
     write_head(w, counted.packets)?;
     write_blocks(w, counted)?;

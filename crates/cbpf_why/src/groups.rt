@@ -3,12 +3,12 @@
 ghost use Rattle.std.specs.Prelude.{◌≡◌, ◌<◌, ◌≤◌, ◌+◌, ◌*◌, ◌^◌, ◌++◌, [], ◌∷◌, List, ℕ, length, IfSome, slice_get, replicate, IfOk, Some, None};
 ghost use Rattle.cbpf_code.specs.Writing.{Wrote};
 ghost use Rattle.cbpf_code.specs.declared.writing.TheConstants.{LINE_SIZE};
-ghost use Rattle.cbpf_why.specs.declared.ended.Decided.{Decided as ADecided};
+ghost use Rattle.cbpf_why.specs.declared.ended.EndedBy.{EndedBy as AnEndedBy};
 ghost use Rattle.cbpf_why.specs.declared.ended.Verdict.{Verdict as AVerdict};
 ghost use Rattle.cbpf_why.specs.Ends.{verdict_of};
 ghost use Rattle.cbpf_why.specs.Groups as spec;
 
-use crate::ended::{Decided, Verdict, prepend_reason_after, prepend_test, prepend_verdict};
+use crate::ended::{EndedBy, Verdict, prepend_reason_after, prepend_test, prepend_verdict};
 use cbpf_code::{Line, Program, WriteFault, prepend_line};
 use cbpf_reply::Counts;
 use std::alloc::{AllocError, Allocator};
@@ -21,13 +21,13 @@ pub(crate) struct Group {
     /// How many there are.
     pub(crate) count: u64,
     /// The first of them.
-    pub(crate) first: Option<Decided>,
+    pub(crate) first: Option<EndedBy>,
 }
 
 impl Group {
     /// Adds a packet.
     #[inline(always)]
-    fn add(&mut self, ended: Decided)
+    fn add(&mut self, ended: EndedBy)
         requires { self.old.count + 1 < 2 ^ 64 }
         ensures { self.new ≡ spec.with_one self.old ended }
     {
@@ -46,10 +46,10 @@ const EMPTY: Group = Group {
 
 /// Adds a packet to the group in its row.
 #[inline(always)]
-fn add<A: Allocator>(groups: &mut Vec<Group, A>, ended: Decided)
+fn add<A: Allocator>(groups: &mut Vec<Group, A>, ended: EndedBy)
     requires inside { spec.row ended < length groups.old.items }
-    requires few { (ends : List ADecided) × (v : AVerdict) × spec.AreGroups ends v groups.old.items × (length ends + 1 < 2 ^ 64) }
-    ensures groups { (ends : List ADecided) → spec.AreGroups ends (verdict_of ended.ended.reason) groups.old.items
+    requires few { (ends : List AnEndedBy) × (v : AVerdict) × spec.AreGroups ends v groups.old.items × (length ends + 1 < 2 ^ 64) }
+    ensures groups { (ends : List AnEndedBy) → spec.AreGroups ends (verdict_of ended.ended.reason) groups.old.items
         → spec.AreGroups (ends ++ ended ∷ []) (verdict_of ended.ended.reason) groups.new.items }
     ensures long { length groups.new.items ≡ length groups.old.items }
 {
@@ -105,9 +105,9 @@ impl<A: Allocator + Copy> Groups<A> {
 
     /// Adds a packet.
     #[inline(always)]
-    pub(crate) fn add(&mut self, ended: Decided)
-        requires { (n : ℕ) × (ends : List ADecided) × spec.KeepsAll self.old n ends × (length ends + 1 < 2 ^ 64) × spec.IsInside n ended }
-        ensures { (n : ℕ) (ends : List ADecided) → spec.KeepsAll self.old n ends → spec.IsInside n ended
+    pub(crate) fn add(&mut self, ended: EndedBy)
+        requires { (n : ℕ) × (ends : List AnEndedBy) × spec.KeepsAll self.old n ends × (length ends + 1 < 2 ^ 64) × spec.HasRow n ended }
+        ensures { (n : ℕ) (ends : List AnEndedBy) → spec.KeepsAll self.old n ends → spec.HasRow n ended
             → spec.KeepsAll self.new n (ends ++ ended ∷ []) }
     {
         match ended.ended.verdict() {
@@ -147,10 +147,10 @@ impl<A: Allocator + Copy> Groups<A> {
 }
 
 /// Puts where a packet ended, after the conditional jump that decided, in at most 168 bytes.
-fn prepend_place<P: Allocator>(line: &mut Line, p: &Program<P>, decided: Decided)
-    requires inside { spec.IsInside (length p.now) decided }
+fn prepend_place<P: Allocator>(line: &mut Line, p: &Program<P>, decided: EndedBy)
+    requires inside { spec.HasRow (length p.now) decided }
     requires room { length line.old + 168 ≤ LINE_SIZE }
-    ensures text { line.new ≡ spec.place_text p.now decided.ended decided.by ++ line.old }
+    ensures text { line.new ≡ spec.end_place_text p.now decided.ended decided.by ++ line.old }
     ensures grown { length line.new ≤ length line.old + 168 }
 {
     match decided.by {
@@ -171,9 +171,9 @@ fn write_group_line<W: Write, P: Allocator>(
     w: &mut W,
     p: &Program<P>,
     count: u64,
-    first: Decided,
+    first: EndedBy,
 ) -> Result<(), WriteFault>
-    requires { spec.IsInside (length p.now) first }
+    requires { spec.HasRow (length p.now) first }
     ensures { Wrote (W.contents w.old) (W.contents w.new) result (spec.group_line p.now count first) }
 {
     let mut line = Line::new();
@@ -195,7 +195,7 @@ fn write_group<W: Write, P: Allocator>(
     p: &Program<P>,
     group: Group,
 ) -> Result<(), WriteFault>
-    requires { IfSome group.first (spec.IsInside (length p.now)) }
+    requires { IfSome group.first (spec.HasRow (length p.now)) }
     ensures { Wrote (W.contents w.old) (W.contents w.new) result (spec.group_text p.now group) }
 {
     match group.first {
@@ -213,9 +213,9 @@ fn write_three<W: Write, P: Allocator>(
     failed: Group,
     unknown: Group,
 ) -> Result<(), WriteFault>
-    requires passed { IfSome passed.first (spec.IsInside (length p.now)) }
-    requires failed { IfSome failed.first (spec.IsInside (length p.now)) }
-    requires unknown { IfSome unknown.first (spec.IsInside (length p.now)) }
+    requires passed { IfSome passed.first (spec.HasRow (length p.now)) }
+    requires failed { IfSome failed.first (spec.HasRow (length p.now)) }
+    requires unknown { IfSome unknown.first (spec.HasRow (length p.now)) }
     ensures { Wrote (W.contents w.old) (W.contents w.new) result
         (spec.group_text p.now passed ++ (spec.group_text p.now failed ++ spec.group_text p.now unknown)) }
 {
@@ -232,8 +232,8 @@ fn write_groups_at<W: Write, A: Allocator + Copy, P: Allocator>(
     i: usize,
 ) -> Result<(), WriteFault>
     requires inside { i < 2 * length p.now }
-    requires kept { (ends : List ADecided) × spec.KeepsAll groups.now (length p.now) ends }
-    ensures { (ends : List ADecided) → spec.KeepsAll groups.now (length p.now) ends
+    requires kept { (ends : List AnEndedBy) × spec.KeepsAll groups.now (length p.now) ends }
+    ensures { (ends : List AnEndedBy) → spec.KeepsAll groups.now (length p.now) ends
         → Wrote (W.contents w.old) (W.contents w.new) result (spec.groups_at p.now ends i) }
 {
     let passed = groups.at(Verdict::Pass, i);
@@ -249,8 +249,8 @@ pub(crate) fn write_groups<W: Write, A: Allocator + Copy, P: Allocator>(
     p: &Program<P>,
     groups: &Groups<A>,
 ) -> Result<(), WriteFault>
-    requires { (ends : List ADecided) × spec.KeepsAll groups.now (length p.now) ends }
-    ensures { (ends : List ADecided) → spec.KeepsAll groups.now (length p.now) ends
+    requires { (ends : List AnEndedBy) × spec.KeepsAll groups.now (length p.now) ends }
+    ensures { (ends : List AnEndedBy) → spec.KeepsAll groups.now (length p.now) ends
         → Wrote (W.contents w.old) (W.contents w.new) result (spec.groups_text p.now ends) }
 {
     for i in 0..2 * p.len() as usize {

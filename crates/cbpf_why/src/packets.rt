@@ -5,7 +5,7 @@ ghost use Rattle.cbpf_code.specs.Writing.{Wrote};
 ghost use Rattle.cbpf_code.specs.declared.writing.TheConstants.{LINE_SIZE};
 ghost use Rattle.cbpf_why.specs.Packets as spec;
 
-use crate::ended::{Decided, prepend_reason, prepend_truth, prepend_verdict};
+use crate::ended::{EndedBy, prepend_reason, prepend_truth, prepend_verdict};
 use cbpf_code::{Line, WriteFault};
 use cbpf_machine::Choice;
 use std::io::Write;
@@ -29,10 +29,10 @@ fn prepend_choice(line: &mut Line, by: Option<Choice>)
 
 /// Writes a packet's line.
 #[tactic(auto, unfolding(crate::specs::Packets::packet_line))]
-pub(crate) fn write_packet_line<W: Write>(w: &mut W, decided: Decided) -> Result<(), WriteFault>
+pub(crate) fn write_packet_line<W: Write>(w: &mut W, decided: EndedBy) -> Result<(), WriteFault>
     ensures { Wrote (W.contents w.old) (W.contents w.new) result (spec.packet_line decided) }
 {
-    let Decided { ended, by } = decided;
+    let EndedBy { ended, by } = decided;
     let mut line = Line::new();
     line.prepend(b"\n");
     prepend_choice(&mut line, by);

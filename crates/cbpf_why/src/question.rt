@@ -14,7 +14,7 @@ pub struct Question<'a, P: Allocator> {
     pub program: &'a Program<P>,
     pub values: &'a Values,
     pub report: Report,
-    /// Which packets are looked at, sorted; where the list is empty, it is all.
+    /// Which packets are looked at, sorted; none, where the list is empty.
     pub packets: &'a [PacketRange],
     ghost sorted: { AreSorted packets.now } by { sorted_is_a_fact packets.now },
 }

@@ -6,19 +6,19 @@ ghost use Rattle.cbpf_code.specs.Writing.{Wrote};
 ghost use Rattle.pcap_classic.specs.Lent.{record_of};
 ghost use Rattle.pcap_classic.specs.Records.{Record};
 ghost use Rattle.cbpf_why.specs.Ends.{decided};
-ghost use Rattle.cbpf_why.specs.Job as spec;
+ghost use Rattle.cbpf_why.specs.Taking as spec;
 ghost use Rattle.cbpf_why.specs.Question.{machine_in};
 ghost use Rattle.cbpf_why.specs.Packets.{packet_line};
 ghost use Rattle.cbpf_why.specs.Reports as reports;
-ghost use Rattle.cbpf_why.specs.declared.job.WhyFault.TheVariants as fault;
+ghost use Rattle.cbpf_why.specs.declared.reporting.WhyFault.TheVariants as fault;
 ghost use Rattle.cbpf_why.specs.declared.report.Report.TheVariants.{Summary};
 
 use crate::chosen::PacketRange;
-use crate::counted::{Counted, add_counted, add_ended, end_of};
-use crate::job::WhyFault;
+use crate::gathered::{Gathered, add_counted, add_ended, end_of};
 use crate::packets::write_packet_line;
 use crate::question::Question;
 use crate::report::Report;
+use crate::reporting::WhyFault;
 use crate::traces::write_trace;
 use cbpf_code::WriteFault;
 use pcap_classic::{CaptureReader, Captured, ReadFault};
@@ -35,7 +35,7 @@ fn writes_each(report: Report) -> bool
 /// Writes the line of a packet.
 // Kept out of line, as its registers would else be saved for each packet that is counted.
 #[inline(never)]
-fn write_line_of<P: Allocator, W: Write>(
+fn write_packet<P: Allocator, W: Write>(
     question: &Question<'_, P>,
     w: &mut W,
     item: &Captured<'_>,
@@ -49,19 +49,19 @@ fn write_line_of<P: Allocator, W: Write>(
 /// Counts a packet, or writes what is to be reported of it.
 fn take_packet<P: Allocator, A: Allocator + Copy, W: Write>(
     question: &Question<'_, P>,
-    counted: &mut Counted<A>,
+    counted: &mut Gathered<A>,
     w: &mut W,
     item: &Captured<'_>,
 ) -> Result<(), WriteFault>
-    requires { (records : List Record) × spec.Took question.now counted.old records × (length records + 1 < 2 ^ 64) }
+    requires { (records : List Record) × spec.HasGathered question.now counted.old records × (length records + 1 < 2 ^ 64) }
     ensures wrote { Wrote (W.contents w.old) (W.contents w.new) result
         (reports.packet_text question.now.report (machine_in question.now) (record_of item.now)) }
-    ensures took { (records : List Record) → spec.Took question.now counted.old records
-        → OnOk result (spec.Took question.now counted.new (records ++ record_of item.now ∷ [])) }
+    ensures took { (records : List Record) → spec.HasGathered question.now counted.old records
+        → OnOk result (spec.HasGathered question.now counted.new (records ++ record_of item.now ∷ [])) }
 {
     match question.report {
         Report::Traces => write_trace(w, question.program, counted.longest, question.values, item),
-        Report::Packets => write_line_of(question, w, item),
+        Report::Packets => write_packet(question, w, item),
         Report::Summary => {
             add_ended::<P, A, 4>(question, counted, item);
             Ok(())
@@ -96,13 +96,13 @@ fn flush_if_due<R: Read, B: Allocator, W: Write>(
 /// Reads a record, and takes it where its number isn't below the first one that is looked at: false at the end.
 fn take_next<P: Allocator, A: Allocator + Copy, R: Read, B: Allocator, W: Write>(
     question: &Question<'_, P>,
-    counted: &mut Counted<A>,
+    counted: &mut Gathered<A>,
     reader: &mut CaptureReader<R, B>,
     w: &mut W,
     first: u64,
 ) -> Result<bool, WhyFault>
-    requires { (records : List Record) × spec.Took question.now counted.old records × (length records + 1 < 2 ^ 64) }
-    ensures { (records : List Record) → spec.Took question.now counted.old records →
+    requires { (records : List Record) × spec.HasGathered question.now counted.old records × (length records + 1 < 2 ^ 64) }
+    ensures { (records : List Record) → spec.HasGathered question.now counted.old records →
         MatchResult result
         (λ has_more. spec.Stepped question.now first records reader.old reader.new counted.new
         (W.contents w.old) (W.contents w.new) has_more)
@@ -132,7 +132,7 @@ fn take_next<P: Allocator, A: Allocator + Copy, R: Read, B: Allocator, W: Write>
 #[inline(never)]
 fn count_buffered<P: Allocator, A: Allocator + Copy, R: Read, B: Allocator>(
     question: &Question<'_, P>,
-    counted: &mut Counted<A>,
+    counted: &mut Gathered<A>,
     reader: &mut CaptureReader<R, B>,
     range: PacketRange,
 )
@@ -140,12 +140,12 @@ fn count_buffered<P: Allocator, A: Allocator + Copy, R: Read, B: Allocator>(
     requires begun { range.first ≤ reader.old.count + 1 }
     requires few { reader.old.count < 2 ^ 60 }
     requires within { reader.old.count ≤ range.last }
-    requires took { (records : List Record) × spec.Took question.now counted.old records
+    requires took { (records : List Record) × spec.HasGathered question.now counted.old records
         × (length records ≤ reader.old.count) }
     ensures few { reader.new.count < 2 ^ 60 }
     ensures since { reader.old.count ≤ reader.new.count }
     ensures within { reader.new.count ≤ range.last }
-    ensures going { spec.GoesOn question.now range.first reader.old reader.new counted.old counted.new }
+    ensures going { spec.KeepsGoing question.now range.first reader.old reader.new counted.old counted.new }
 {
     'records: while reader.count() < range.last {
         let Some(item) = reader.next_buffered() else {
@@ -159,18 +159,18 @@ fn count_buffered<P: Allocator, A: Allocator + Copy, R: Read, B: Allocator>(
 #[inline(always)]
 fn take_ready<P: Allocator, A: Allocator + Copy, R: Read, B: Allocator>(
     question: &Question<'_, P>,
-    counted: &mut Counted<A>,
+    counted: &mut Gathered<A>,
     reader: &mut CaptureReader<R, B>,
     range: PacketRange,
 )
     requires few { reader.old.count < 2 ^ 60 }
     requires within { reader.old.count ≤ range.last }
-    requires took { (records : List Record) × spec.Took question.now counted.old records
+    requires took { (records : List Record) × spec.HasGathered question.now counted.old records
         × (length records ≤ reader.old.count) }
     ensures few { reader.new.count < 2 ^ 60 }
     ensures since { reader.old.count ≤ reader.new.count }
     ensures within { reader.new.count ≤ range.last }
-    ensures going { spec.GoesOn question.now range.first reader.old reader.new counted.old counted.new }
+    ensures going { spec.KeepsGoing question.now range.first reader.old reader.new counted.old counted.new }
 {
     if matches!(question.report, Report::Summary) && range.first <= reader.count() + 1 {
         count_buffered(question, counted, reader, range);
@@ -180,15 +180,15 @@ fn take_ready<P: Allocator, A: Allocator + Copy, R: Read, B: Allocator>(
 /// Takes the packets of a range. Fewer were read after it than the range's last number only at the capture's end.
 fn take_range<P: Allocator, A: Allocator + Copy, R: Read, B: Allocator, W: Write>(
     question: &Question<'_, P>,
-    counted: &mut Counted<A>,
+    counted: &mut Gathered<A>,
     reader: &mut CaptureReader<R, B>,
     w: &mut W,
     range: PacketRange,
 ) -> Result<(), WhyFault>
     requires few { reader.old.count < 2 ^ 60 }
-    requires took { (records : List Record) × spec.Took question.now counted.old records
+    requires took { (records : List Record) × spec.HasGathered question.now counted.old records
         × (length records ≤ reader.old.count) }
-    ensures { (records : List Record) → spec.Took question.now counted.old records → length records ≤ reader.old.count →
+    ensures { (records : List Record) → spec.HasGathered question.now counted.old records → length records ≤ reader.old.count →
         MatchResult result
         (λ _. spec.Ranged question.now range records reader.old reader.new counted.new (W.contents w.old) (W.contents w.new))
         (λ fault. spec.RangeFault question.now range reader.old reader.new (W.contents w.old) (W.contents w.new) fault) }
@@ -210,16 +210,15 @@ fn take_range<P: Allocator, A: Allocator + Copy, R: Read, B: Allocator, W: Write
     Ok(())
 }
 
-/// Takes the packets of ranges, which are sorted: whether the capture's end was read.
-fn take_ranges<P: Allocator, A: Allocator + Copy, R: Read, B: Allocator, W: Write>(
+/// Takes the packets that are looked at: whether the capture's end was read.
+pub(crate) fn take_packets<P: Allocator, A: Allocator + Copy, R: Read, B: Allocator, W: Write>(
     question: &Question<'_, P>,
-    counted: &mut Counted<A>,
+    counted: &mut Gathered<A>,
     reader: &mut CaptureReader<R, B>,
     w: &mut W,
 ) -> Result<bool, WhyFault>
     requires count { reader.old.count ≡ 0 }
-    requires took { spec.Took question.now counted.old [] }
-    requires some { 0 < length question.now.packets.now }
+    requires took { spec.HasGathered question.now counted.old [] }
     ensures { MatchResult result
         (λ is_over. spec.Went question.now reader.old reader.new counted.new (W.contents w.old) (W.contents w.new)
         × spec.Ends question.now.packets.now reader.old.left reader.new is_over)
@@ -232,29 +231,4 @@ fn take_ranges<P: Allocator, A: Allocator + Copy, R: Read, B: Allocator, W: Writ
         }
     }
     Ok(false)
-}
-
-/// Takes the packets that are looked at: whether the capture's end was read.
-pub(crate) fn take_packets<P: Allocator, A: Allocator + Copy, R: Read, B: Allocator, W: Write>(
-    question: &Question<'_, P>,
-    counted: &mut Counted<A>,
-    reader: &mut CaptureReader<R, B>,
-    w: &mut W,
-) -> Result<bool, WhyFault>
-    requires count { reader.old.count ≡ 0 }
-    requires took { spec.Took question.now counted.old [] }
-    ensures { MatchResult result
-        (λ is_over. spec.Went question.now reader.old reader.new counted.new (W.contents w.old) (W.contents w.new)
-        × spec.Ends question.now.packets.now reader.old.left reader.new is_over)
-        (λ fault. spec.Broke question.now reader.old.left reader.new (W.contents w.old) (W.contents w.new) fault) }
-{
-    if question.packets.is_empty() {
-        let all = PacketRange {
-            first: 1,
-            last: u64::MAX,
-        };
-        take_range(question, counted, reader, w, all)?;
-        return Ok(true);
-    }
-    take_ranges(question, counted, reader, w)
 }

@@ -8,7 +8,7 @@ use cbpf_dbg::{ListTrail, MarkTrail, Meter, Session, SessionFault, Stop, When};
 use cbpf_machine::Tally;
 use cbpf_text::{AsmFault, assemble, tokens};
 use cbpf_tool::{DiskFiles, Files, LoadFault, MemoryFiles};
-use cbpf_why::{FilterFault, Report, WhyFault};
+use cbpf_why::{ALL_PACKETS, FilterFault, Report, WhyFault};
 use pcap_classic::{Capture, CaptureFault, CaptureReader};
 use session_tests::fault_injection::FaultyAllocator;
 use session_tests::files::repeated;
@@ -234,7 +234,7 @@ fn finds_none_for_a_report<A: Allocator + Copy>(rt: &impl Test, alloc: A, report
         .ok()
         .expect(rt, "the capture");
     let mut text = Vec::new(rt.alloc());
-    let answer = report_in(rt, alloc, report, &[], &mut reader, &mut text);
+    let answer = report_in(rt, alloc, report, &[ALL_PACKETS], &mut reader, &mut text);
     let found = answer == Err(WhyFault::Memory);
     assert!(rt; found == text.is_empty() && (found || answer.is_ok()));
     found

@@ -3,7 +3,7 @@
 use crate::assertions::{Test, assert_at, assert_named};
 use crate::why::{ARP_REPORTS, ARP_SUMMARY, Reported, report_in, report_on};
 use cbpf_reply::write_capture;
-use cbpf_why::{CaptureEnd, Report, WhyFault};
+use cbpf_why::{ALL_PACKETS, CaptureEnd, Report, WhyFault};
 use memory_tests::inputs::ARP;
 use pcap_classic::{Capture, CaptureReader, Ending};
 use session_tests::fault_injection::{ERROR_KINDS, FaultyAllocator, FaultyReader};
@@ -32,7 +32,13 @@ fn a_read_fails(rt: &impl Test, row: &Reported, place: usize, kind: ErrorKind) {
     let mut source = FaultyReader::new(file, 1, call);
     source.set_error(kind);
     let mut text = Vec::new(rt.alloc());
-    let answer = report_on(rt, (ARP, None, row.0), &[], &mut source, &mut text);
+    let answer = report_on(
+        rt,
+        (ARP, None, row.0),
+        &[ALL_PACKETS],
+        &mut source,
+        &mut text,
+    );
     let wanted = text_after(rt, row, file.get(..place).unwrap_or(b""));
     let is_wanted = answer == Err(WhyFault::Read) && text.as_slice() == wanted;
     assert_named(rt, is_wanted, "the fault of the read", (row.0, place));
@@ -54,7 +60,13 @@ fn no_read_fails(rt: &impl Test, row: &Reported, chunk: usize) {
     let file = two_packets::little_endian();
     let mut source = FaultyReader::new(file, chunk, 0);
     let mut text = Vec::new(rt.alloc());
-    let answer = report_on(rt, (ARP, None, row.0), &[], &mut source, &mut text);
+    let answer = report_on(
+        rt,
+        (ARP, None, row.0),
+        &[ALL_PACKETS],
+        &mut source,
+        &mut text,
+    );
     let is_wanted = answer == Ok(Some(end_of(rt, file))) && text.as_slice() == row.1;
     assert_named(rt, is_wanted, "the text", (row.0, chunk));
     let reads = file.len().div_ceil(chunk) as u64 + 1;
@@ -107,7 +119,7 @@ fn text_of(rt: &impl Test, row: &Reported, file: &[u8]) -> Vec<u8> {
 fn reported_as_far_as_it_goes(rt: &impl Test, file: &[u8], place: usize) {
     for row in ARP_REPORTS.iter().take(3) {
         let mut text = Vec::new(rt.alloc());
-        let answer = report_on(rt, (ARP, None, row.0), &[], file, &mut text);
+        let answer = report_on(rt, (ARP, None, row.0), &[ALL_PACKETS], file, &mut text);
         let is_text = text.as_slice() == text_of(rt, row, file).as_slice();
         let is_wanted = answer == Ok(Some(end_of(rt, file))) && is_text;
         assert_named(rt, is_wanted, "the text of a cut file", (row.0, place));
@@ -181,7 +193,14 @@ fn a_record_that_gets_no_room(rt: HostRuntime) {
             .expect(&rt, "a capture");
         let mut text = Vec::new(rt.alloc());
         let asked = (ARP, None, *report);
-        let answer = report_in(&rt, rt.alloc(), asked, &[], &mut reader, &mut text);
+        let answer = report_in(
+            &rt,
+            rt.alloc(),
+            asked,
+            &[ALL_PACKETS],
+            &mut reader,
+            &mut text,
+        );
         let is_wanted = answer == Err(WhyFault::Memory) && text.as_slice() == *wanted;
         assert_at(&rt, row, is_wanted && refusing.left() == 0);
     }

@@ -42,28 +42,28 @@ fn texts_of_a_filter(rt: HostRuntime) {
 static REFUSED: [(&[u8], FilterFault, &str); 19] = [
     (
         b"",
-        FilterFault::Source(AsmFault::At(AsmKind::NoInstruction, 1)),
+        FilterFault::Source(AsmFault::At(AsmKind::NoInstruction, 1), 0),
         "line 1: A11 no instruction",
     ),
     (
         b" \n",
-        FilterFault::Source(AsmFault::At(AsmKind::NoInstruction, 1)),
+        FilterFault::Source(AsmFault::At(AsmKind::NoInstruction, 1), 0),
         "line 1: A11 no instruction",
     ),
     (
         b"ret #0\nret $",
-        FilterFault::Source(AsmFault::At(AsmKind::NoToken, 2)),
+        FilterFault::Source(AsmFault::At(AsmKind::NoToken, 2), 11),
         "line 2: A1 unknown byte",
     ),
     // No word text begins so, nor does a source.
     (
         b"-1",
-        FilterFault::Source(AsmFault::At(AsmKind::Misplaced, 1)),
+        FilterFault::Source(AsmFault::At(AsmKind::Misplaced, 1), 0),
         "line 1: A4 token can't stand here",
     ),
     (
         b",1,6 0 0 1",
-        FilterFault::Source(AsmFault::At(AsmKind::Misplaced, 1)),
+        FilterFault::Source(AsmFault::At(AsmKind::Misplaced, 1), 0),
         "line 1: A4 token can't stand here",
     ),
     (

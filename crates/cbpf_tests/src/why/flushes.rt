@@ -5,7 +5,7 @@ use crate::assertions::{Test, assert_named};
 use crate::waiting::{CountingWriter, Exchange, Length, NOTHING, WaitingReader};
 use crate::why::ranges::packets;
 use crate::why::{ARP_REPORTS, Reported, report_on};
-use cbpf_why::{PacketRange, Report, WhyFault};
+use cbpf_why::{ALL_PACKETS, PacketRange, Report, WhyFault};
 use memory_tests::inputs::ARP;
 use session_tests::fault_injection::ERROR_KINDS;
 use session_tests::two_packets;
@@ -100,12 +100,18 @@ fn in_pieces_and_in_one(rt: &impl Test, row: &Reported) {
     let whole = [(two_packets::little_endian(), Length::Short, both as u64)];
     let (first, last) = (first as u64, text.len() as u64);
     if both == 0 {
-        each_flush(rt, &pieces(row), report, &[], &[last]);
-        each_flush(rt, &whole, report, &[], &[last]);
+        each_flush(rt, &pieces(row), report, &[ALL_PACKETS], &[last]);
+        each_flush(rt, &whole, report, &[ALL_PACKETS], &[last]);
         return;
     }
-    each_flush(rt, &pieces(row), report, &[], &[0, first, last, last]);
-    each_flush(rt, &whole, report, &[], &[last, last]);
+    each_flush(
+        rt,
+        &pieces(row),
+        report,
+        &[ALL_PACKETS],
+        &[0, first, last, last],
+    );
+    each_flush(rt, &whole, report, &[ALL_PACKETS], &[last, last]);
     // After the first packet nothing more is read.
     each_flush(rt, &pieces(row)[..3], report, &[packets(1, 1)], &[0, first]);
 }

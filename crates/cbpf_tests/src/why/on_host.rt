@@ -7,7 +7,7 @@ use cbpf_tool::{
     CreateFault, Failure, Remarks, ReportAsked, Request, ToolFault, WhyFailure, WhyJob,
     request_status, run_request,
 };
-use cbpf_why::Report;
+use cbpf_why::{ALL_PACKETS, Report};
 use session_tests::fault_injection::FaultyAllocator;
 use std::process::ExitCode;
 
@@ -23,7 +23,7 @@ fn job(rt: &impl Test, report: Report) -> WhyJob {
         asked: ReportAsked {
             report,
             values: Values::new(),
-            packets: Vec::new(rt.alloc()),
+            packets: Vec::from_slice(rt.alloc(), &[ALL_PACKETS]).expect(rt, "memory"),
         },
     }
 }

@@ -5,7 +5,7 @@ ghost use Rattle.cbpf_why.specs.Chosen.{AreSorted};
 use crate::assertions::{Test, assert_named};
 use crate::why::report_on;
 use crate::why::reports::seven_packets;
-use cbpf_why::{CaptureEnd, PacketRange, Report};
+use cbpf_why::{ALL_PACKETS, CaptureEnd, PacketRange, Report};
 use memory_tests::inputs::ARP;
 use pcap_classic::Ending;
 use session_tests::fault_injection::FaultyReader;
@@ -87,8 +87,7 @@ fn ranges_beyond_the_end(rt: HostRuntime) {
     lines(&rt, &[packets(u64::MAX, u64::MAX)], seven, b"", 154);
 }
 
-/// The packets of a cut capture that are in a range: how it is cut is said of no range, and answered where its end was
-/// read.
+/// The packets of a cut capture that are in a range. How it is cut is said, and answered, where its end was read.
 fn summary(rt: &impl Test, ranges: &[PacketRange], wanted: Option<CaptureEnd>, text: &[u8])
     requires { AreSorted ranges.now }
 {
@@ -110,10 +109,11 @@ pcap: 1 packets, cut record data at 82\n";
         count: 1,
         ending: Ending::CutData(82),
     });
-    summary(&rt, &[], end, cut);
+    summary(&rt, &[ALL_PACKETS], end, cut);
     summary(&rt, &[packets(1, 1)], None, FIRST);
-    summary(&rt, &[packets(1, 2)], end, FIRST);
-    summary(&rt, &[packets(2, 2)], end, b"bpf passes:0 fails:0\n");
+    summary(&rt, &[packets(1, 2)], end, cut);
+    let second = b"bpf passes:0 fails:0\npcap: 1 packets, cut record data at 82\n";
+    summary(&rt, &[packets(2, 2)], end, second);
 }
 
 /// A range, a number of packets, and what is left of the range beyond them.

@@ -2,7 +2,7 @@
 
 use crate::assertions::{Test, assert_at};
 use crate::why::{Asked, report_on};
-use cbpf_why::Report;
+use cbpf_why::{ALL_PACKETS, Report};
 
 /// Each way to end: loads outside the packet at `l0` and `l10`, a division by 0 at `l2`, an extension at `l5`, and
 /// returns. Both ways of `l3` lead to `l4`, and nothing leads to `l9`.
@@ -276,7 +276,7 @@ pub(crate) fn seven_packets() -> &'static [u8] {
 fn are_whole(rt: &impl Test, rows: &[Row]) {
     for (row, (asked, file, text)) in rows.iter().enumerate() {
         let mut written = Vec::new(rt.alloc());
-        let answer = report_on(rt, *asked, &[], *file, &mut written);
+        let answer = report_on(rt, *asked, &[ALL_PACKETS], *file, &mut written);
         assert_at(rt, row, answer.is_ok() && written.as_slice() == *text);
     }
 }

@@ -3,7 +3,7 @@
 use crate::assertions::{Test, assert_named};
 use crate::why::report_on;
 use cbpf_code::{write_bytes, write_with_number};
-use cbpf_why::Report;
+use cbpf_why::{ALL_PACKETS, Report};
 use session_tests::fault_injection::FaultyReader;
 use session_tests::files::repeated;
 use session_tests::inputs::{HEADER, RECORD};
@@ -99,7 +99,13 @@ fn a_long_program_on_many_packets(rt: HostRuntime) {
     ] {
         let mut text = Vec::new(rt.alloc());
         let source = FaultyReader::new(&file, 1000, 0);
-        let answer = report_on(&rt, (&filter, None, report), &[], source, &mut text);
+        let answer = report_on(
+            &rt,
+            (&filter, None, report),
+            &[ALL_PACKETS],
+            source,
+            &mut text,
+        );
         let wanted = text_of(&rt, report);
         let is_wanted = answer.is_ok() && text.as_slice() == wanted.as_slice();
         assert_named(&rt, is_wanted, "the text", report);

@@ -7,6 +7,7 @@ use Rattle.cbpf_syntax.specs.declared.reader.Step.{Step}
 use Rattle.cbpf_text.specs.declared.draft.Statement.{Statement}
 use Rattle.cbpf_text.specs.declared.name.Name.{Name}
 use Rattle.cbpf_text.specs.Drafts.{same_name, IsDraft}
+use Rattle.cbpf_text.specs.Refusals.{IsPlacedFault}
 use Rattle.cbpf_syntax.specs.Items.{Item, Items}
 use Rattle.cbpf_syntax.specs.Lexemes.{Lexeme, AreLexemes}
 use Rattle.cbpf_syntax.specs.Ahead.{Ahead, HasTaken, IsStepOf, IsFirstLarge, MayRemain, step_len}
@@ -17,6 +18,7 @@ use Rattle.std.proofs.lemmas.List.{length-map}
 use Rattle.cbpf_syntax.specs.Steps.{Stuck}
 use Rattle.cbpf_syntax.proofs.Steps.{end_stuck}
 use Rattle.cbpf_text.specs.declared.fault.AsmKind.TheVariants as kinds
+use Rattle.cbpf_text.specs.declared.placed.PlacedFault.TheVariants as placed
 use Rattle.cbpf_text.proofs.FaultParts.{lex_refused, IsState, state_init, state_stuck, state_items, state_lexemes}
 use Rattle.cbpf_text.proofs.FaultParts.{label_state, item_state, tokens_refused, items_large_refused}
 use Rattle.cbpf_text.proofs.draft.read_items.Given.{Over}
@@ -30,7 +32,7 @@ loop-next-init g c =
 pub returns-in-Err-clause-refused : goal.returns-in-Err-clause-refused
 returns-in-Err-clause-refused g c =
     let inv = c.loop-next.invariant in
-    lex_refused c.args.text.now c.asm_fault.result (c.asm_fault.ensures c.args.text.now
+    lex_refused c.args.reader.now.text c.lex_fault.result (c.lex_fault.ensures c.args.reader.now.text
     (subst (λ u. IsLexFault u c.in-Err.fault) inv.text c.in-Err.ensures.fault))
 
 -- the state after a step, and what the step says of the tokens
@@ -38,7 +40,7 @@ abbrev Stepped : List ℕ → Ahead → Option ℕ → List Statement → Option
 Stepped text a o ss rep look waits next = (taken : List Lexeme) × HasTaken taken a × (a.text ≡ text)
     × IsState text taken o ss rep look waits × ((ts : List Lexeme) → MayRemain a ts → IsStepOf ts next)
 
-stepped : (g : Over) (c : In-Ok g) → Stepped c.args.text.now c.step.new.self c.loop-next.draft.excess
+stepped : (g : Over) (c : In-Ok g) → Stepped c.args.reader.now.text c.step.new.self c.loop-next.draft.excess
     c.loop-next.draft.statements.items c.loop-next.draft.labels.repeat
     (λ k. get same_name c.loop-next.draft.labels.table k) c.loop-next.waits c.in-Ok.next
 stepped g c =
@@ -91,8 +93,9 @@ returns-in-Some-Stuck-clause-refused g c =
     let st = c.in-Some-Stuck.is ∙ ap (λ q. Some q) (rw c.in-Some-Stuck.is at c.in-Some-Stuck.field-0-is) in
     let some : 0 < length c.step.new.self.tokens =
     subst (λ q. IfSome q (λ _. 0 < length c.step.new.self.tokens)) st c.in-Ok.ensures.some in
-    c.fault_here.ensures s.0 s.1 (λ ts t.
-    let may = remains c.args.text.now s.0 c.step.new.self ts s.1 s.2 t in
+    subst (λ u. IsPlacedFault u c.fault_here.result) s.2 (c.fault_here.ensures s.0 s.1 (λ ts here.
+    let t = subst (λ u. AreLexemes u (s.0 ++ ts)) s.2 here in
+    let may = remains c.args.reader.now.text s.0 c.step.new.self ts s.1 s.2 t in
     let long : 0 < length ts = omega (
       arith,
       some,
@@ -101,22 +104,23 @@ returns-in-Some-Stuck-clause-refused g c =
       length-append (map lexeme_of c.step.new.self.tokens) may.0,
     ) in
     state_stuck c.step.new.self s.1 s.2 s.3 c.in-Some-Stuck.n ts t (omega (arith, long))
-    (subst (λ q. IsStepOf ts q) st (s.4 ts may)))
+    (subst (λ q. IsStepOf ts q) st (s.4 ts may))))
 
 pub returns-in-None-clause-refused : goal.returns-in-None-clause-refused
 returns-in-None-clause-refused g c =
     let s = stepped g (goal.at.returns-in-None-clause-refused g c).In-Ok in
-    c.fault_here-in-None.ensures s.0 s.1 (λ ts t.
+    subst (λ u. IsPlacedFault u c.fault_here-in-None.result) s.2 (c.fault_here-in-None.ensures s.0 s.1 (λ ts here.
+    let t = subst (λ u. AreLexemes u (s.0 ++ ts)) s.2 here in
     let none : ts ≡ [] = subst (λ q. IsStepOf ts q) c.in-None.is
-    (s.4 ts (remains c.args.text.now s.0 c.step.new.self ts s.1 s.2 t)) in
+    (s.4 ts (remains c.args.reader.now.text s.0 c.step.new.self ts s.1 s.2 t)) in
     let some = s.3.some c.if-waits.true in
-    state_stuck c.step.new.self s.1 s.2 s.3 0 ts t (omega (arith, some)) (subst (λ us. Stuck 0 us) (sym none) end_stuck))
+    state_stuck c.step.new.self s.1 s.2 s.3 0 ts t (omega (arith, some)) (subst (λ us. Stuck 0 us) (sym none) end_stuck)))
 
 -- the items of a text that was read to its end
-ended : (g : Over) (c : After-large g) → Stepped c.args.text.now c.step.new.self c.loop-next.draft.excess
+ended : (g : Over) (c : After-large g) → Stepped c.args.reader.now.text c.step.new.self c.loop-next.draft.excess
     c.loop-next.draft.statements.items c.loop-next.draft.labels.repeat
     (λ k. get same_name c.loop-next.draft.labels.table k) c.loop-next.waits c.in-Ok.next
-    → (ts : List Lexeme) × (is : List Item) × AreLexemes c.args.text.now ts × Items ts is
+    → (ts : List Lexeme) × (is : List Item) × AreLexemes c.args.reader.now.text ts × Items ts is
     × IsDraft c.loop-next.draft.excess c.loop-next.draft.statements.items c.loop-next.draft.labels.repeat
     (λ k. get same_name c.loop-next.draft.labels.table k) is []
     × IsFirstLarge ts c.large.result
@@ -133,8 +137,8 @@ returns-in-Some-clause-refused g c =
     let at = goal.at.returns-in-Some-clause-refused g c in
     let e = ended g at.After-large (stepped g at.In-Ok) in
     let large : IsFirstLarge e.0 (Some c.in-Some.at) = subst (λ o. IsFirstLarge e.0 o) c.in-Some.is e.5 in
-    tokens_refused c.args.text.now e.0 kinds.LargeNumber c.in-Some.at c.fault_on_line.result e.2
-    (items_large_refused e.0 e.1 c.in-Some.at e.3 large) c.fault_on_line.ensures
+    tokens_refused c.args.reader.now.text e.0 kinds.LargeNumber c.in-Some.at (placed.At kinds.LargeNumber c.in-Some.at) e.2
+    (items_large_refused e.0 e.1 c.in-Some.at e.3 large) refl
 
 pub returns-in-None-large-clause-items : goal.returns-in-None-large-clause-items
 returns-in-None-large-clause-items g c =

@@ -9,9 +9,9 @@ use Rattle.cbpf_text.proofs.draft.read_items.Given as goal
 
 abbrev pub invariant-loop-next : goal.invariant-loop-next
 invariant-loop-next g l = record {
-  text : l.reader.text ≡ l.text;
+  text : l.reader.text ≡ l.fn.reader.text;
   size : length l.draft.statements.items ≤ MAX_INSTRUCTIONS;
-  state : (taken : List Lexeme) × HasTaken taken l.reader × IsState l.text taken l.draft.excess l.draft.statements.items
+  state : (taken : List Lexeme) × HasTaken taken l.reader × IsState l.fn.reader.text taken l.draft.excess l.draft.statements.items
       l.draft.labels.repeat (λ k. get same_name l.draft.labels.table k) l.waits;
 }
 

@@ -1,4 +1,4 @@
-use Rattle.std.proofs.Common.{rules, refl, ◌<◌, ◌∙◌, ◌+◌, ap, length, drop, arith}
+use Rattle.std.proofs.Common.{rules, ◌<◌, ◌∙◌, ◌+◌, ap, length, drop, arith}
 use Rattle.std.proofs.lemmas.List.{drop_all}
 use Rattle.std.specs.Option.{option_or}
 use Rattle.cbpf_text.specs.Refusals.{uses_fault, uses_from}
@@ -10,12 +10,8 @@ pub returns-in-Err-clause-refused : goal.returns-in-Err-clause-refused
 returns-in-Err-clause-refused g c ls is h f r =
     let l : c.loop-i.i < length is = omega (arith, c.loop-i-test.true, statements_size c.args.statements.now is h) in
     let e = (c.loop-i.invariant ls is h f r).0 ∙ fault_next ls is c.loop-i.i some_item l in
-    rw (c.fault_on_line.ensures, e) (
-      _,
-      refused_before _ _ c.in-Err.fault (c.in-Err.ensures ls _
-          (statement_at c.args.statements.now is c.loop-i.i _ some_item h c.loop-i-test.true) (f c.loop-i.i some_item l) r),
-      refl,
-    )
+    rw e (refused_before _ _ (c.in-Err.kind, c.in-Err.at) (c.in-Err.ensures ls _
+    (statement_at c.args.statements.now is c.loop-i.i _ some_item h c.loop-i-test.true) (f c.loop-i.i some_item l) r))
 
 pub loop-i-preserved : goal.loop-i-preserved
 loop-i-preserved g c ls is h f r =

@@ -9,6 +9,9 @@ returns-clause-list c = one.one_assembly
 pub returns-clause-never_both : goal.returns-clause-never_both
 returns-clause-never_both c = one.never_both
 
+pub returns-clause-place : goal.returns-clause-place
+returns-clause-place c = one.one_place
+
 pub returns-clause-refusal : goal.returns-clause-refusal
 returns-clause-refusal c = one.one_refusal
 

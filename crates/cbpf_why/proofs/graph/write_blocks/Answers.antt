@@ -1,6 +1,6 @@
 use Rattle.std.proofs.Common.{◌≡◌, ◌<◌, ◌∙◌, length, ap, arith}
 use Rattle.cbpf_code.proofs.WrittenLemmas.{appended-nil, err-exit}
-use Rattle.cbpf_why.specs.Ends.{alone_of}
+use Rattle.cbpf_why.specs.Ends.{only_ended_of}
 use Rattle.cbpf_why.specs.Graph.{block_of, block_part, facts_at}
 use Rattle.cbpf_why.proofs.TextLemmas.{texts-next, texts-stop}
 use Rattle.cbpf_why.proofs.graph.write_blocks.Goals as goal
@@ -21,7 +21,7 @@ loop-i-preserved g c = record {
   written = λ m records counts.
       let is = c.block_at-block.ensures.block m records counts (c.loop-i.invariant.block m records counts) in
       let last = c.is_last.ensures m records counts in
-      texts-next (λ i. block_part m.list i (facts_at m records (alone_of m records) i)) c.loop-i.i _ _ _
+      texts-next (λ i. block_part m.list i (facts_at m records (only_ended_of m records) i)) c.loop-i.i _ _ _
       (c.loop-i.invariant.written m records counts) (rw (c.facts_at-facts.ensures m records counts is, is, last, ← counts.list) at c.in_ok-write_block_part.ensures);
 }
 
@@ -31,5 +31,5 @@ returns-in_err-write_block_part g c = λ m records counts.
     let last = c.is_last.ensures m records counts in
     let below : c.loop-i.i < length m.list =
     omega (arith, c.loop-i-test.true, c.len-i-end.ensures.value, ap length counts.list) in
-    err-exit _ _ _ _ c.from_residual.ensures.0 (texts-stop (λ i. block_part m.list i (facts_at m records (alone_of m records) i)) c.loop-i.i (length m.list) _ _ _ below
+    err-exit _ _ _ _ c.from_residual.ensures.0 (texts-stop (λ i. block_part m.list i (facts_at m records (only_ended_of m records) i)) c.loop-i.i (length m.list) _ _ _ below
     (c.loop-i.invariant.written m records counts) (rw (c.facts_at-facts.ensures m records counts is, is, last, ← counts.list) at c.in_err-write_block_part.ensures))

@@ -1,6 +1,6 @@
 use Rattle.std.proofs.Common.{◌≡◌, ◌<◌, ◌∙◌, length, ap, arith}
 use Rattle.cbpf_code.proofs.WrittenLemmas.{appended-nil, err-exit}
-use Rattle.cbpf_why.specs.Ends.{alone_of}
+use Rattle.cbpf_why.specs.Ends.{only_ended_of}
 use Rattle.cbpf_why.specs.Graph.{block_of, end_part, facts_at}
 use Rattle.cbpf_why.proofs.TextLemmas.{texts-next, texts-stop}
 use Rattle.cbpf_why.proofs.graph.write_ends.Goals as goal
@@ -20,7 +20,7 @@ loop-i-preserved g c = record {
       c.block_at-block.ensures.block m records counts (c.loop-i.invariant.block m records counts) ∙ ap (block_of m.list) here;
   written = λ m records counts.
       let is = c.block_at-block.ensures.block m records counts (c.loop-i.invariant.block m records counts) in
-      texts-next (λ i. end_part (block_of m.list i) (facts_at m records (alone_of m records) i)) c.loop-i.i _ _ _
+      texts-next (λ i. end_part (block_of m.list i) (facts_at m records (only_ended_of m records) i)) c.loop-i.i _ _ _
       (c.loop-i.invariant.written m records counts) (rw (c.facts_at.ensures m records counts is, is) at c.in_ok-write_ends_at.ensures);
 }
 
@@ -29,5 +29,5 @@ returns-in_err-write_ends_at g c = λ m records counts.
     let is = c.block_at-block.ensures.block m records counts (c.loop-i.invariant.block m records counts) in
     let below : c.loop-i.i < length m.list =
     omega (arith, c.loop-i-test.true, c.len-i-end.ensures.value, ap length counts.list) in
-    err-exit _ _ _ _ c.from_residual.ensures.0 (texts-stop (λ i. end_part (block_of m.list i) (facts_at m records (alone_of m records) i)) c.loop-i.i (length m.list) _ _ _ below
+    err-exit _ _ _ _ c.from_residual.ensures.0 (texts-stop (λ i. end_part (block_of m.list i) (facts_at m records (only_ended_of m records) i)) c.loop-i.i (length m.list) _ _ _ below
     (c.loop-i.invariant.written m records counts) (rw (c.facts_at.ensures m records counts is, is) at c.in_err-write_ends_at.ensures))

@@ -17,12 +17,10 @@ returns-in-Some-clause-fault c =
     let h = here (goal.at.returns-in-Some-clause-fault c).After-next_piece-piece in
     let stands = c.self.invariant.1 in
     rw (← c.self.view_is) (record {
-      at = at;
       tokens = stands.0;
       before = c.loop-at.invariant.more stands.0 stands.1;
       size = piece.size;
       bad = subst (λ k. IsPieceAt text at (record { kind = k; size = piece.size })) c.in-Some.ensures.bad h;
-      line = c.line_of.ensures;
     })
 
 pub returns-in-TokenOf-clause-token : goal.returns-in-TokenOf-clause-token

@@ -1,8 +1,8 @@
 use Rattle.std.proofs.Common.{◌<◌, ◌^◌, take}
 use Rattle.std.specs.List.{All}
-use Rattle.cbpf_why.specs.Job.{Went}
+use Rattle.cbpf_why.specs.Taking.{Went}
 use Rattle.cbpf_why.proofs.RangeLemmas.{EndsBy}
-use Rattle.cbpf_why.proofs.taking.take_ranges.Given as goal
+use Rattle.cbpf_why.proofs.taking.take_packets.Given as goal
 
 abbrev pub invariant-loop-range : goal.invariant-loop-range
 invariant-loop-range g l = record {

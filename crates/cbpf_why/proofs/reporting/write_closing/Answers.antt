@@ -4,7 +4,7 @@ use Rattle.cbpf_why.proofs.CountedLemmas.{graph_counted, kept-summary, runs_coun
 use Rattle.cbpf_why.proofs.LawLemmas.{totals-are}
 use Rattle.cbpf_why.specs.Question.{machine_in}
 use Rattle.cbpf_why.proofs.InRangeLemmas.{closed_by}
-use Rattle.cbpf_why.proofs.job.write_closing.Goals as goal
+use Rattle.cbpf_why.proofs.reporting.write_closing.Goals as goal
 
 pub returns-in-Traces-clause-wrote : goal.returns-in-Traces-clause-wrote
 returns-in-Traces-clause-wrote g c = λ records took. rw c.in-Traces.is (appended-nil _)

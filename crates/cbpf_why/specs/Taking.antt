@@ -2,26 +2,26 @@
 use Rattle.std.specs.Prelude.{◌≡◌, ℕ, ◌+◌, ◌<◌, ◌≤◌, nat_le, Bool, true, false, List, [], ◌++◌, length, filter, map, slice_get, if◌then◌else◌}
 use Rattle.std.specs.Prelude.{Option, Some, None, IfSome, ◌^◌, Result, Ok, Err}
 use Rattle.cbpf_machine.specs.Machine.{Machine}
-use Rattle.cbpf_machine.specs.Choices.{Counted as CountedRuns, runs_at}
+use Rattle.cbpf_machine.specs.Choices.{Counted, runs_at}
 use Rattle.pcap_classic.specs.Reading.{NeedsRoom, Reading}
 use Rattle.pcap_classic.specs.Records.{Record}
 use Rattle.pcap_classic.specs.Savefile.{Savefile}
 use Rattle.cbpf_why.specs.declared.chosen.PacketRange.{PacketRange}
-use Rattle.cbpf_why.specs.declared.counted.Counted.{Counted}
-use Rattle.cbpf_why.specs.declared.ended.Decided.{Decided}
+use Rattle.cbpf_why.specs.declared.ended.EndedBy.{EndedBy}
+use Rattle.cbpf_why.specs.declared.gathered.Gathered.{Gathered}
 use Rattle.cbpf_why.specs.declared.question.Question.{Question}
 use Rattle.cbpf_why.specs.declared.report.Report.{Report}
 use Rattle.cbpf_why.specs.declared.report.Report.TheVariants.{Summary, Traces, Packets, Coverage, Graph}
 use Rattle.cbpf_why.specs.Chosen.{chosen}
 use Rattle.cbpf_why.specs.Columns.{IsLongest}
-use Rattle.cbpf_why.specs.Ends.{alone, decided}
+use Rattle.cbpf_why.specs.Ends.{decided, only_ended}
 use Rattle.cbpf_why.specs.Groups.{KeepsAll}
 use Rattle.cbpf_why.specs.Question.{machine_in}
-use Rattle.cbpf_why.specs.Reports.{IsWithin, goes_to_end, packets_text}
+use Rattle.cbpf_why.specs.Reports.{ReadsWithin, goes_to_end, packets_text}
 use Rattle.cbpf_why.specs.Runs.{executed, taken}
 use Rattle.cbpf_code.specs.Writing.{Appended, AppendedPart}
-use Rattle.cbpf_why.specs.declared.job.WhyFault.{WhyFault}
-use Rattle.cbpf_why.specs.declared.job.WhyFault.TheVariants.{Read, Write, Memory}
+use Rattle.cbpf_why.specs.declared.reporting.WhyFault.{WhyFault}
+use Rattle.cbpf_why.specs.declared.reporting.WhyFault.TheVariants.{Read, Write, Memory}
 
 -- the reports for which groups of packets are counted, and those for which it is counted how often instructions ran;
 -- `Coverage` shows only the second, but both are counted for it
@@ -40,14 +40,14 @@ counts_runs Traces = false
 counts_runs Packets = false
 
 -- what the groups keep of a packet: the summary alone names the jump that decided
-abbrev pub kept_end : Report → Machine → Record → Decided
+abbrev pub kept_end : Report → Machine → Record → EndedBy
 kept_end Summary m r = decided m r
-kept_end Coverage m r = alone m r
-kept_end Graph m r = alone m r
-kept_end Traces m r = alone m r
-kept_end Packets m r = alone m r
+kept_end Coverage m r = only_ended m r
+kept_end Graph m r = only_ended m r
+kept_end Traces m r = only_ended m r
+kept_end Packets m r = only_ended m r
 
-abbrev pub kept_ends : Report → Machine → List Record → List Decided
+abbrev pub kept_ends : Report → Machine → List Record → List EndedBy
 kept_ends report m records = map (kept_end report m) records
 
 -- the records where they are counted
@@ -55,13 +55,13 @@ abbrev pub where_counted : Bool → List Record → List Record
 where_counted counts records = if counts then records else []
 
 -- a tally of a machine on some records
-pub record Tallies (t : CountedRuns) (m : Machine) (records : List Record) : Type 0 where
+pub record Tallies (t : Counted) (m : Machine) (records : List Record) : Type 0 where
   pub packets : t.packets ≡ length records
   pub long : length t.runs ≡ length m.list
   pub runs : (i : ℕ) → runs_at t.runs i ≡ record { executed = executed m records i; taken = taken m records i }
 
 -- what is counted of the records that were taken, and the length of the program's longest instruction
-pub record Took {A P : Type 0} (q : Question P) (c : Counted A) (records : List Record) : Type 0 where
+pub record HasGathered {A P : Type 0} (q : Question P) (c : Gathered A) (records : List Record) : Type 0 where
   pub groups : KeepsAll c.groups (length q.program.now) (kept_ends q.report (machine_in q) (where_counted (counts_groups q.report) records))
   pub runs : Tallies c.tally (machine_in q) (where_counted (counts_runs q.report) records)
   pub longest : IsLongest c.longest q.program.now
@@ -86,10 +86,10 @@ TookFromKnown first (Some s) new before after more = (rest : Savefile) × (new �
 
 -- after some text: a fault of a write, which leaves a beginning of it; or of a read, or out of memory, which leave all
 -- of it
-abbrev pub Stopped : WhyFault → Option (List ℕ) → Option (List ℕ) → List ℕ → Type 0
-Stopped Write old new text = AppendedPart old new text
-Stopped Read old new text = Appended old new text
-Stopped Memory old new text = Appended old new text
+abbrev pub LeftAfter : WhyFault → Option (List ℕ) → Option (List ℕ) → List ℕ → Type 0
+LeftAfter Write old new text = AppendedPart old new text
+LeftAfter Read old new text = Appended old new text
+LeftAfter Memory old new text = Appended old new text
 
 -- what is written of all packets together: all of it, or a beginning, or nothing where there was no memory
 abbrev pub Closed : Option (List ℕ) → Option (List ℕ) → Result (Unit {0}) WhyFault → List ℕ → Type 0
@@ -111,22 +111,22 @@ IsOver old new = IfSome old (λ _. IfSome new.left (λ s. (s.records ≡ []) × 
 -- of a range: `records` were taken before it; since then the reader has come from `old` to `new`, and `more` was taken
 -- too. `w` and `v` are what the writer held then and holds now
 pub record Going {A P : Type 0} (q : Question P) (first : ℕ) (records : List Record) (old new : Reading)
-    (c : Counted A) (w v : Option (List ℕ)) : Type 0 where
+    (c : Gathered A) (w v : Option (List ℕ)) : Type 0 where
   pub more : List Record
-  pub took : Took q c (records ++ more)
+  pub took : HasGathered q c (records ++ more)
   pub few : length (records ++ more) ≤ new.count
   pub reads : TookFromKnown first old.left new.left old.count new.count more
   pub wrote : Appended w v (packets_text q.report (machine_in q) more)
 
 -- what is known of a range with the reader at `old` is known of it at `new`, and nothing was written meanwhile
-abbrev pub GoesOn : {A P : Type 0} → Question P → ℕ → Reading → Reading → Counted A → Counted A → Type 0
-GoesOn q first old new c d = (start : Reading) (records : List Record) (w v : Option (List ℕ))
+abbrev pub KeepsGoing : {A P : Type 0} → Question P → ℕ → Reading → Reading → Gathered A → Gathered A → Type 0
+KeepsGoing q first old new c d = (start : Reading) (records : List Record) (w v : Option (List ℕ))
     → Going q first records start old c w v → Going q first records start new d w v
 
 -- The same of all packets of a range. Where the last packet read has a number below the range's last, the end of the
 -- capture was reached, if the capture is known.
 pub record Ranged {A P : Type 0} (q : Question P) (range : PacketRange) (records : List Record) (old new : Reading)
-    (c : Counted A) (w v : Option (List ℕ)) : Type 0 where
+    (c : Gathered A) (w v : Option (List ℕ)) : Type 0 where
   pub going : Going q range.first records old new c w v
   pub since : old.count ≤ new.count
   pub up_to : old.count < new.count → new.count ≤ range.last
@@ -140,7 +140,7 @@ pub record RangeFault {P : Type 0} (q : Question P) (range : PacketRange) (old n
   pub up_to : old.count < new.count → new.count ≤ range.last
   pub reads : TookFromKnown range.first old.left new.left old.count new.count more
   pub cause : HasCause fault old.left new
-  pub stopped : Stopped fault w v (packets_text q.report (machine_in q) more)
+  pub stopped : LeftAfter fault w v (packets_text q.report (machine_in q) more)
 
 -- what is known of the capture before and after a call that reads a record, if there is one
 abbrev pub LeavesKnown : ℕ → Option Savefile → Option Savefile → List Record → Type 0
@@ -150,11 +150,11 @@ LeavesKnown before (Some s) new one = (rest : Savefile) × (new ≡ Some rest)
     × ((r : Record) → slice_get one 0 ≡ Some r → r.number ≡ before + 1)
 
 -- a record was read, and taken where its number isn't below `first`; or there was none
-pub record Stepped {A P : Type 0} (q : Question P) (first : ℕ) (records : List Record) (old new : Reading) (c : Counted A)
+pub record Stepped {A P : Type 0} (q : Question P) (first : ℕ) (records : List Record) (old new : Reading) (c : Gathered A)
     (w v : Option (List ℕ)) (has_more : Bool) : Type 0 where
   pub one : List Record
   pub is_one : length one ≡ (if has_more then 1 else 0)
-  pub took : Took q c (records ++ from_first first one)
+  pub took : HasGathered q c (records ++ from_first first one)
   pub count : new.count ≡ old.count + length one
   pub few : old.count < 2 ^ 60 → new.count < 2 ^ 60
   pub leaves : LeavesKnown old.count old.left new.left one
@@ -169,7 +169,7 @@ pub record StepFault {P : Type 0} (q : Question P) (first : ℕ) (old new : Read
   pub count : new.count ≡ old.count + length one
   pub leaves : LeavesKnown old.count old.left new.left one
   pub cause : HasCause fault old.left new
-  pub stopped : Stopped fault w v (packets_text q.report (machine_in q) (from_first first one))
+  pub stopped : LeftAfter fault w v (packets_text q.report (machine_in q) (from_first first one))
 
 -- ---- packets of several ranges
 
@@ -185,11 +185,11 @@ LookedKnown ranges None new count records = Unit {0}
 LookedKnown ranges (Some s) new count records = (rest : Savefile) × (new ≡ Some rest) × Looked ranges s rest count records
 
 -- of the packets that were read, those that are looked at were taken
-pub record Went {A P : Type 0} (q : Question P) (old new : Reading) (c : Counted A) (w v : Option (List ℕ)) : Type 0 where
+pub record Went {A P : Type 0} (q : Question P) (old new : Reading) (c : Gathered A) (w v : Option (List ℕ)) : Type 0 where
   pub records : List Record
-  pub took : Took q c records
+  pub took : HasGathered q c records
   pub few : length records ≤ new.count
-  pub within : IsWithin q.packets.now new.count
+  pub within : ReadsWithin q.packets.now new.count
   pub known : LookedKnown q.packets.now old.left new.left new.count records
   pub wrote : Appended w v (packets_text q.report (machine_in q) records)
 
@@ -197,10 +197,10 @@ pub record Went {A P : Type 0} (q : Question P) (old new : Reading) (c : Counted
 pub record Broke {P : Type 0} (q : Question P) (old : Option Savefile) (new : Reading) (w v : Option (List ℕ))
     (fault : WhyFault) : Type 0 where
   pub records : List Record
-  pub within : IsWithin q.packets.now new.count
+  pub within : ReadsWithin q.packets.now new.count
   pub known : LookedKnown q.packets.now old new.left new.count records
   pub cause : HasCause fault old new
-  pub stopped : Stopped fault w v (packets_text q.report (machine_in q) records)
+  pub stopped : LeftAfter fault w v (packets_text q.report (machine_in q) records)
 
 -- the end of the capture was read, or it wasn't asked for
 pub record Ends (ranges : List PacketRange) (old : Option Savefile) (new : Reading) (is_over : Bool) : Type 0 where

@@ -6,13 +6,13 @@ ghost use Rattle.pcap_classic.specs.Lent.{record_of};
 ghost use Rattle.pcap_classic.specs.Records.{Record};
 ghost use Rattle.cbpf_why.specs.Columns.{IsLongest};
 ghost use Rattle.cbpf_why.specs.Ends.{decided, ended};
-ghost use Rattle.cbpf_why.specs.Groups.{IsInside, KeepsAll};
-ghost use Rattle.cbpf_why.specs.Job as spec;
+ghost use Rattle.cbpf_why.specs.Groups.{HasRow, KeepsAll};
 ghost use Rattle.cbpf_why.specs.Question.{machine_in};
+ghost use Rattle.cbpf_why.specs.Taking as spec;
 ghost use Rattle.cbpf_why.specs.declared.report.Report.TheVariants.{Summary};
 
 use crate::columns::longest;
-use crate::ended::{Decided, Ended};
+use crate::ended::{Ended, EndedBy};
 use crate::groups::Groups;
 use crate::question::Question;
 use cbpf_code::Program;
@@ -23,20 +23,20 @@ use std::alloc::{AllocError, Allocator};
 
 /// What is counted of packets, and where the columns of their traces stand.
 #[derive(Drop)]
-pub(crate) struct Counted<A: Allocator> {
+pub(crate) struct Gathered<A: Allocator> {
     pub(crate) groups: Groups<A>,
     pub(crate) tally: Tally<A>,
     /// The length of the program's longest instruction.
     pub(crate) longest: usize,
 }
 
-impl<A: Allocator + Copy> Counted<A> {
-    pub(crate) fn new<P: Allocator>(alloc: A, p: &Program<P>) -> Result<Counted<A>, AllocError>
+impl<A: Allocator + Copy> Gathered<A> {
+    pub(crate) fn new<P: Allocator>(alloc: A, p: &Program<P>) -> Result<Gathered<A>, AllocError>
         ensures groups { IfOk result (λ c. KeepsAll c.groups (length p.now) []) }
         ensures tally { IfOk result (λ c. (m : Machine) → m.list ≡ p.now → spec.Tallies c.tally m []) }
         ensures longest { IfOk result (λ c. IsLongest c.longest p.now) }
     {
-        Ok(Counted {
+        Ok(Gathered {
             groups: Groups::new(alloc, p.len())?,
             tally: Tally::new(alloc, p)?,
             longest: longest(p),
@@ -50,14 +50,14 @@ impl<A: Allocator + Copy> Counted<A> {
 pub(crate) fn end_of<P: Allocator, const COPY: u32>(
     question: &Question<'_, P>,
     item: &Captured<'_>,
-) -> Decided
+) -> EndedBy
     ensures decided { result ≡ decided (machine_in question.now) (record_of item.now) }
-    ensures inside { IsInside (length question.now.program.now) result }
+    ensures inside { HasRow (length question.now.program.now) result }
 {
     let _sound = question.program.len();
     let task = task_of(question.program, question.values, item);
     let decided = decided_end::<P, COPY>(&mut Meter::new(), &task);
-    Decided::of(Ended::of(item.number, &decided.end), decided.choice)
+    EndedBy::of(Ended::of(item.number, &decided.end), decided.choice)
 }
 
 /// How a packet ends, with its instructions counted.
@@ -83,13 +83,13 @@ fn count_packet<P: Allocator, A: Allocator>(
 #[inline(always)]
 pub(crate) fn add_ended<P: Allocator, A: Allocator + Copy, const COPY: u32>(
     question: &Question<'_, P>,
-    counted: &mut Counted<A>,
+    counted: &mut Gathered<A>,
     item: &Captured<'_>,
 )
     requires summary { question.now.report ≡ Summary }
-    requires took { (records : List Record) × spec.Took question.now counted.old records × (length records + 1 < 2 ^ 64) }
-    ensures { (records : List Record) → spec.Took question.now counted.old records
-        → spec.Took question.now counted.new (records ++ record_of item.now ∷ []) }
+    requires took { (records : List Record) × spec.HasGathered question.now counted.old records × (length records + 1 < 2 ^ 64) }
+    ensures { (records : List Record) → spec.HasGathered question.now counted.old records
+        → spec.HasGathered question.now counted.new (records ++ record_of item.now ∷ []) }
 {
     counted.groups.add(end_of::<P, COPY>(question, item));
 }
@@ -97,14 +97,14 @@ pub(crate) fn add_ended<P: Allocator, A: Allocator + Copy, const COPY: u32>(
 /// Counts a packet by how it ends, and its instructions.
 pub(crate) fn add_counted<P: Allocator, A: Allocator + Copy>(
     question: &Question<'_, P>,
-    counted: &mut Counted<A>,
+    counted: &mut Gathered<A>,
     item: &Captured<'_>,
 )
     requires counts { (spec.counts_groups question.now.report ≡ true) × (spec.counts_runs question.now.report ≡ true) }
-    requires took { (records : List Record) × spec.Took question.now counted.old records × (length records + 1 < 2 ^ 64) }
-    ensures { (records : List Record) → spec.Took question.now counted.old records
-        → spec.Took question.now counted.new (records ++ record_of item.now ∷ []) }
+    requires took { (records : List Record) × spec.HasGathered question.now counted.old records × (length records + 1 < 2 ^ 64) }
+    ensures { (records : List Record) → spec.HasGathered question.now counted.old records
+        → spec.HasGathered question.now counted.new (records ++ record_of item.now ∷ []) }
 {
     let ended = count_packet(question, &mut counted.tally, item);
-    counted.groups.add(Decided { ended, by: None });
+    counted.groups.add(EndedBy { ended, by: None });
 }

@@ -1,9 +1,9 @@
 use Rattle.std.proofs.Common.{length, arith}
 use Rattle.pcap_classic.specs.Lent.{record_of}
-use Rattle.cbpf_why.specs.Job.{kept_ends}
+use Rattle.cbpf_why.specs.Taking.{kept_ends}
 use Rattle.cbpf_why.specs.Question.{machine_in}
 use Rattle.cbpf_why.proofs.CountedLemmas.{took-both, groups_counted, runs_counted, length-kept}
-use Rattle.cbpf_why.proofs.counted.add_counted.Goals as goal
+use Rattle.cbpf_why.proofs.gathered.add_counted.Goals as goal
 
 pub count_packet-ended-requires-clause-long : goal.count_packet-ended-requires-clause-long
 count_packet-ended-requires-clause-long g c =

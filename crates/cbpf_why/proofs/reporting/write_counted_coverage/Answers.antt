@@ -6,7 +6,7 @@ use Rattle.cbpf_why.specs.Columns.{longest}
 use Rattle.cbpf_why.specs.Coverage.{coverage_at, coverage_line, coverage_text, widest}
 use Rattle.cbpf_why.specs.Question.{machine_in}
 use Rattle.cbpf_why.proofs.TextLemmas.{texts-same}
-use Rattle.cbpf_why.proofs.job.write_counted_coverage.Goals as goal
+use Rattle.cbpf_why.proofs.reporting.write_counted_coverage.Goals as goal
 
 pub returns : goal.returns
 unfolding coverage_text

@@ -1,10 +1,10 @@
 use Rattle.std.proofs.Common.{refl, length, arith}
 use Rattle.pcap_classic.specs.Lent.{record_of}
-use Rattle.cbpf_why.specs.Job.{kept_ends}
+use Rattle.cbpf_why.specs.Taking.{kept_ends}
 use Rattle.cbpf_why.specs.declared.report.Report.TheVariants.{Summary}
 use Rattle.cbpf_why.specs.Question.{machine_in}
 use Rattle.cbpf_why.proofs.CountedLemmas.{took-groups, summary_counted, length-kept}
-use Rattle.cbpf_why.proofs.counted.add_ended.Goals as goal
+use Rattle.cbpf_why.proofs.gathered.add_ended.Goals as goal
 
 pub add-requires : goal.add-requires
 add-requires g c =

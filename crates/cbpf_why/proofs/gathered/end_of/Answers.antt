@@ -6,7 +6,7 @@ use Rattle.pcap_classic.specs.Lent.{record_of}
 use Rattle.cbpf_why.specs.Question.{machine_in}
 use Rattle.cbpf_why.proofs.CountedLemmas.{decided-is, ended-is}
 use Rattle.cbpf_why.proofs.StepLemmas.{choice_inside, deciding_inside, last_inside}
-use Rattle.cbpf_why.proofs.counted.end_of.Goals as goal
+use Rattle.cbpf_why.proofs.gathered.end_of.Goals as goal
 
 pub returns-clause-decided : goal.returns-clause-decided
 returns-clause-decided g c =

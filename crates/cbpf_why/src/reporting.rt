@@ -6,20 +6,19 @@ ghost use Rattle.cbpf_code.specs.Writing.{Wrote};
 ghost use Rattle.cbpf_reply.specs.Counts.{finished_text};
 ghost use Rattle.pcap_classic.specs.Records.{AreNumbered, Record};
 ghost use Rattle.cbpf_why.specs.Coverage.{coverage_text};
-ghost use Rattle.cbpf_why.specs.Ends.{alone_of};
+ghost use Rattle.cbpf_why.specs.Ends.{only_ended_of};
 ghost use Rattle.cbpf_why.specs.Graph.{graph_text};
 ghost use Rattle.cbpf_why.specs.Groups.{KeepsAll, all_totals, groups_text};
-ghost use Rattle.cbpf_why.specs.Job as spec;
+ghost use Rattle.cbpf_why.specs.Taking as spec;
 ghost use Rattle.cbpf_why.specs.Question.{machine_in};
 ghost use Rattle.cbpf_why.specs.Reports as reports;
-ghost use Rattle.cbpf_why.specs.declared.ended.Decided.{Decided as ADecided};
-ghost use Rattle.cbpf_why.specs.declared.job.WhyFault.TheVariants as fault;
+ghost use Rattle.cbpf_why.specs.declared.ended.EndedBy.{EndedBy as AnEndedBy};
+ghost use Rattle.cbpf_why.specs.declared.reporting.WhyFault.TheVariants as fault;
 ghost use Rattle.cbpf_why.specs.declared.report.Report.TheVariants.{Graph};
 
 use crate::blocks::block_begins;
-use crate::chosen::PacketRange;
-use crate::counted::Counted;
 use crate::coverage::write_coverage;
+use crate::gathered::Gathered;
 use crate::graph::{CountedProgram, write_graph};
 use crate::groups::{Groups, write_groups};
 use crate::question::Question;
@@ -78,8 +77,8 @@ fn write_summary<P: Allocator, A: Allocator + Copy, W: Write>(
     groups: &Groups<A>,
     end: Option<CaptureEnd>,
 ) -> Result<(), WriteFault>
-    requires { (ends : List ADecided) × KeepsAll groups.now (length p.now) ends }
-    ensures { (ends : List ADecided) → KeepsAll groups.now (length p.now) ends
+    requires { (ends : List AnEndedBy) × KeepsAll groups.now (length p.now) ends }
+    ensures { (ends : List AnEndedBy) → KeepsAll groups.now (length p.now) ends
         → Wrote (W.contents w.old) (W.contents w.new) result
         (groups_text p.now ends
         ++ (finished_text (all_totals ends) ++ option_map_or reports.cut_line end [])) }
@@ -98,16 +97,16 @@ fn write_counted_graph<P: Allocator, A: Allocator + Copy, W: Write>(
     alloc: A,
     w: &mut W,
     question: &Question<'_, P>,
-    counted: &Counted<A>,
+    counted: &Gathered<A>,
 ) -> Result<(), WhyFault>
     requires { (records : List Record)
-        × KeepsAll counted.now.groups (length question.now.program.now) (alone_of (machine_in question.now) records)
+        × KeepsAll counted.now.groups (length question.now.program.now) (only_ended_of (machine_in question.now) records)
         × spec.Tallies counted.now.tally (machine_in question.now) records }
     ensures { (records : List Record)
-        → KeepsAll counted.now.groups (length question.now.program.now) (alone_of (machine_in question.now) records)
+        → KeepsAll counted.now.groups (length question.now.program.now) (only_ended_of (machine_in question.now) records)
         → spec.Tallies counted.now.tally (machine_in question.now) records
         → spec.Closed (W.contents w.old) (W.contents w.new) result
-        (graph_text (machine_in question.now) records (alone_of (machine_in question.now) records)) }
+        (graph_text (machine_in question.now) records (only_ended_of (machine_in question.now) records)) }
 {
     let Ok(begins) = block_begins(alloc, question.program) else {
         return Err(WhyFault::Memory);
@@ -129,7 +128,7 @@ fn write_counted_graph<P: Allocator, A: Allocator + Copy, W: Write>(
 fn write_counted_coverage<P: Allocator, A: Allocator + Copy, W: Write>(
     w: &mut W,
     question: &Question<'_, P>,
-    counted: &Counted<A>,
+    counted: &Gathered<A>,
 ) -> Result<(), WriteFault>
     requires { (records : List Record) × spec.Tallies counted.now.tally (machine_in question.now) records }
     ensures { (records : List Record) → spec.Tallies counted.now.tally (machine_in question.now) records
@@ -148,16 +147,16 @@ fn written(done: Result<(), WriteFault>) -> Result<(), WhyFault>
     }
 }
 
-/// Writes what is reported of all packets together, and how the capture ends where that is shown.
+/// Writes what is reported of all packets together, and how the capture ends where its end was read.
 fn write_closing<P: Allocator, A: Allocator + Copy, W: Write>(
     alloc: A,
     w: &mut W,
     question: &Question<'_, P>,
-    counted: &Counted<A>,
+    counted: &Gathered<A>,
     end: Option<CaptureEnd>,
 ) -> Result<(), WhyFault>
-    requires { (records : List Record) × spec.Took question.now counted.now records }
-    ensures wrote { (records : List Record) → spec.Took question.now counted.now records
+    requires { (records : List Record) × spec.HasGathered question.now counted.now records }
+    ensures wrote { (records : List Record) → spec.HasGathered question.now counted.now records
         → spec.Closed (W.contents w.old) (W.contents w.new) result
         (reports.closing_text question.now.report (machine_in question.now) records end) }
     ensures room { IsErrOf result fault.Memory → question.now.report ≡ Graph }
@@ -170,13 +169,6 @@ fn write_closing<P: Allocator, A: Allocator + Copy, W: Write>(
         Report::Coverage => written(write_counted_coverage(w, question, counted)),
         Report::Graph => write_counted_graph(alloc, w, question, counted),
     }
-}
-
-/// How the capture ends, where all packets are looked at.
-fn shown_end(packets: &[PacketRange], end: Option<CaptureEnd>) -> Option<CaptureEnd>
-    ensures { result ≡ reports.shown_end packets.now end }
-{
-    if packets.is_empty() { end } else { None }
 }
 
 /// How the capture ends, where its end was read.
@@ -200,7 +192,7 @@ fn end_read<R: Read, A: Allocator>(
 /// capture ends, where its end was read.
 ///
 /// Of a packet whose number stands in no range nothing is reported. No packet is read after the greatest last number of
-/// the ranges. So the capture's end is read where all packets are looked at, or where a range ends beyond it.
+/// the ranges. So the capture's end is read where a range ends beyond it, as [`ALL_PACKETS`](crate::ALL_PACKETS) does.
 /// [`PacketRange::beyond`] says which numbers of a range the capture lacks. What is reported packet by packet is flushed
 /// before a read that may wait. The reader is left after the packets that were read, so the caller can read on.
 ///
@@ -221,16 +213,15 @@ pub fn why<P: Allocator, A: Allocator + Copy, R: Read, B: Allocator, W: Write>(
     requires count { reader.old.count ≡ 0 }
     ensures reported { IfSome reader.old.left (λ c. reports.Reported question.now.report question.now.packets.now
         (machine_in question.now) c reader.new.count (W.contents w.old) (W.contents w.new) result) }
-    ensures within { reports.IsWithin question.now.packets.now reader.new.count }
+    ensures within { reports.ReadsWithin question.now.packets.now reader.new.count }
     ensures left { IfSome reader.old.left (λ c. reports.IsLeft c reader.new) }
 {
-    let Ok(mut counted) = Counted::new(alloc, question.program) else {
+    let Ok(mut counted) = Gathered::new(alloc, question.program) else {
         return Err(WhyFault::Memory);
     };
     let is_over = take_packets(question, &mut counted, reader, w)?;
     let end = end_read(reader, is_over);
-    let shown = shown_end(question.packets, end);
-    write_closing(alloc, w, question, &counted, shown)?;
+    write_closing(alloc, w, question, &counted, end)?;
     if w.flush().is_err() {
         return Err(WhyFault::Write);
     }

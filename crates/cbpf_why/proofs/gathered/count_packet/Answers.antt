@@ -4,7 +4,7 @@ use Rattle.pcap_classic.specs.Lent.{record_of}
 use Rattle.cbpf_why.specs.Question.{machine_in}
 use Rattle.cbpf_why.proofs.CountedLemmas.{ended-is, tallies-more}
 use Rattle.cbpf_why.proofs.StepLemmas.{last_inside}
-use Rattle.cbpf_why.proofs.counted.count_packet.Goals as goal
+use Rattle.cbpf_why.proofs.gathered.count_packet.Goals as goal
 
 pub returns-clause-ended : goal.returns-clause-ended
 returns-clause-ended g c =

@@ -2,7 +2,7 @@ use Rattle.std.proofs.Common.{◌≡◌, ap, refl, rules, Err, Ok}
 use Rattle.cbpf_why.specs.Question.{machine_in}
 use Rattle.cbpf_why.proofs.CountedLemmas.{took-nothing}
 use Rattle.cbpf_why.proofs.ReportLemmas.{broke, complete, left_after, unclosed, unflushed, unstarted, within_after}
-use Rattle.cbpf_why.proofs.job.why.Goals as goal
+use Rattle.cbpf_why.proofs.reporting.why.Goals as goal
 
 pub take_packets-requires-clause-took : goal.take_packets-requires-clause-took
 take_packets-requires-clause-took g c =
@@ -25,8 +25,7 @@ returns-in_err-write_closing-clause-reported g c =
     let is : c.from_residual-in_err-write_closing.result ≡ Err c.in_err-write_closing.field-0.0 = search rules in
     let went = c.in_ok-is_over.ensures.0 in
     rw is (unclosed c.args.question.now c.args.reader.now c.take_packets.new.reader c.take_packets.new.counted _ _ _
-    c.in_ok-is_over.is_over _ _ went c.in_ok-is_over.ensures.1 c.end_read-end.ensures.numbered c.end_read-end.ensures.end
-    c.shown_end-shown.ensures
+    c.in_ok-is_over.is_over _ went c.in_ok-is_over.ensures.1 c.end_read-end.ensures.numbered c.end_read-end.ensures.end
     c.in_err-write_closing.field-0.0 (c.in_err-write_closing.ensures.wrote went.records went.took)
     (λ is. c.in_err-write_closing.ensures.room (ap Err is)))
 
@@ -34,15 +33,15 @@ pub returns-then-is_err-clause-reported : goal.returns-then-is_err-clause-report
 returns-then-is_err-clause-reported g c =
     let went = c.in_ok-is_over.ensures.0 in
     unflushed c.args.question.now c.args.reader.now c.take_packets.new.reader c.take_packets.new.counted _ _ _
-    c.in_ok-is_over.is_over _ _ went c.in_ok-is_over.ensures.1 c.end_read-end.ensures.numbered c.end_read-end.ensures.end
-    c.shown_end-shown.ensures _ (c.in_ok-write_closing.ensures.wrote went.records went.took) c.flush.ensures.bytes
+    c.in_ok-is_over.is_over _ went c.in_ok-is_over.ensures.1 c.end_read-end.ensures.numbered c.end_read-end.ensures.end
+    _ (c.in_ok-write_closing.ensures.wrote went.records went.took) c.flush.ensures.bytes
 
 pub returns-clause-reported : goal.returns-clause-reported
 returns-clause-reported g c =
     let went = c.in_ok-is_over.ensures.0 in
     complete c.args.question.now c.args.reader.now c.take_packets.new.reader c.take_packets.new.counted _ _ _
-    c.in_ok-is_over.is_over _ _ went c.in_ok-is_over.ensures.1 c.end_read-end.ensures.numbered c.end_read-end.ensures.end
-    c.shown_end-shown.ensures _ (c.in_ok-write_closing.ensures.wrote went.records went.took) c.flush.ensures.bytes
+    c.in_ok-is_over.is_over _ went c.in_ok-is_over.ensures.1 c.end_read-end.ensures.numbered c.end_read-end.ensures.end
+    _ (c.in_ok-write_closing.ensures.wrote went.records went.took) c.flush.ensures.bytes
 
 pub returns-in_err-is_over-clause-left : goal.returns-in_err-is_over-clause-left
 returns-in_err-is_over-clause-left g c =
